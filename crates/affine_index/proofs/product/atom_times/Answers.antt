@@ -1,0 +1,56 @@
+use Rattle.std.proofs.Common.{rules, ◌≡◌, ◌∙◌, ap, sym, ℕ, ◌+◌, ◌*◌, ◌<◌, ◌≤◌, length, drop, get_or, arith}
+use Rattle.std.proofs.lemmas.Int.{to_z-of_z}
+use Rattle.std.specs.Int.RustNames.{unsigned_abs}
+use mir.Syntax.{w128}
+use mir.Val.{SFits}
+use Rattle.affine_index.proofs.NormLaws.{atom_times-norm, scaled-norm, sum-norm}
+use Rattle.affine_index.proofs.ProductLaws.{atom_times-step, norm-step, product-step}
+use Rattle.affine_index.specs.Form.{of_atom}
+use Rattle.affine_index.specs.Product.{atom_product, atom_products, atom_times, term_products}
+use Rattle.affine_index.specs.Sum.{add_up, scaled, sum_of}
+use Rattle.affine_index.specs.Wide.{norm, terms_norm}
+use Rattle.affine_index.proofs.product.atom_times.Goals as goal
+
+pub loop-at-preserved : goal.loop-at-preserved
+loop-at-preserved c =
+    let x = c.args.atom.now in
+    let ts = c.args.form.now.terms in
+    let at = c.loop-at.at in
+    let t = c.get-item.result.now in
+    let lt : at < length ts = omega (arith, c.loop-at-test.true, c.len-at-end.ensures, ap length c.terms.ensures) in
+    let e : t ≡ get_or ts at t = c.get-item.ensures ∙ ap (λ us. get_or us at t) c.terms-in-loop-at.ensures in
+    let wide : SFits w128 c.coefficient.result = search rules in
+    let z = to_z-of_z w128 c.coefficient.result wide ∙ c.coefficient.ensures in
+    let p : c.in_ok-product.product ≡ scaled t.coefficient (of_atom (atom_product x t.atom)) =
+    c.in_ok-product.ensures {u = tt} ∙ (λ k. scaled (z k) (of_atom ((c.in_ok-atoms.ensures {u = tt} ∙ ap (atom_product x) c.atom.ensures) k))) in
+    let s : c.in_ok-total-2.total ≡ sum_of c.loop-at.total (scaled t.coefficient (of_atom (atom_product x t.atom))) = c.in_ok-total-2.ensures {u = tt} ∙ ap (sum_of c.loop-at.total) p in
+    record {
+      room = omega (arith, ap norm s, sum-norm c.loop-at.total (scaled t.coefficient (of_atom (atom_product x t.atom))), scaled-norm t.coefficient (of_atom (atom_product x t.atom)), norm-step ts at t lt e, c.loop-at.invariant.room);
+      rest = ap (add_up (atom_products x (drop (at + 1) ts))) s ∙ atom_times-step x ts at t c.loop-at.total lt e ∙ c.loop-at.invariant.rest;
+    }
+
+pub loop-at-init : goal.loop-at-init
+loop-at-init c =
+    let x = c.args.atom.now in
+    let form = c.args.form.now in
+    let wide : SFits w128 c.constant.result = search rules in
+    let z = to_z-of_z w128 c.constant.result wide ∙ c.constant.ensures in
+    let p : c.in_ok-total.total ≡ scaled form.constant (of_atom x) = c.in_ok-total.ensures {u = tt} ∙ (λ k. scaled (z k) (of_atom (c.in_ok-copy_atom.ensures {u = tt} k))) in
+    record {
+      room = omega (arith, ap norm p, scaled-norm form.constant (of_atom x));
+      rest = ap (add_up (atom_products x form.terms)) p;
+    }
+
+pub sum-requires : goal.sum-requires
+sum-requires c =
+    let x = c.args.atom.now in
+    let ts = c.args.form.now.terms in
+    let at = c.loop-at.at in
+    let t = c.get-item.result.now in
+    let lt : at < length ts = omega (arith, c.loop-at-test.true, c.len-at-end.ensures, ap length c.terms.ensures) in
+    let e : t ≡ get_or ts at t = c.get-item.ensures ∙ ap (λ us. get_or us at t) c.terms-in-loop-at.ensures in
+    let wide : SFits w128 c.coefficient.result = search rules in
+    let z = to_z-of_z w128 c.coefficient.result wide ∙ c.coefficient.ensures in
+    let p : c.in_ok-product.product ≡ scaled t.coefficient (of_atom (atom_product x t.atom)) =
+    c.in_ok-product.ensures {u = tt} ∙ (λ k. scaled (z k) (of_atom ((c.in_ok-atoms.ensures {u = tt} ∙ ap (atom_product x) c.atom.ensures) k))) in
+    omega (arith, ap norm p, scaled-norm t.coefficient (of_atom (atom_product x t.atom)), norm-step ts at t lt e, c.loop-at.invariant.room, c.requires)

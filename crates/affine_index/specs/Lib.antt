@@ -1,0 +1,17 @@
+pub mod Condition
+pub mod Count
+pub mod Every
+pub mod Form
+pub mod Laws
+pub mod Limited
+pub mod Magnitude
+pub mod Normal
+pub mod Order
+pub mod Printed
+pub mod Product
+pub mod Put
+pub mod Puts
+pub mod Quotient
+pub mod Sum
+pub mod Value
+pub mod Wide
