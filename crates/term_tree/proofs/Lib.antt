@@ -1,0 +1,5 @@
+pub mod Folds
+pub mod FormLaws
+pub mod Forms
+pub mod NodeFold
+mod Rows

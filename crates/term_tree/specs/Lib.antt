@@ -1,0 +1,12 @@
+pub mod Children
+pub mod Counts
+pub mod Goals
+pub mod Limits
+pub mod Meaning
+pub mod Modules
+pub mod Scope
+pub mod Shape
+pub mod Shaped
+pub mod SmallForm
+pub mod Syntax
+pub mod Tensors
