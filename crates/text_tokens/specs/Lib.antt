@@ -1,0 +1,5 @@
+pub mod Kinds
+pub mod Lex
+pub mod Words
+pub mod Numbers
+pub mod Cursor
