@@ -1,0 +1,27 @@
+-- Bytes that are text, and bytes of which only a front is.
+use Rattle.std.proofs.Common.{◌≡◌, ℕ, Bool, true, false, cond, take, Result, refl, sym, ap, subst, ◌∙◌}
+use Rattle.std.specs.Str.{IsUtf8, is_utf8}
+use Rattle.std.specs.Str.Lossy.{utf8_valid_len}
+use Rattle.std.proofs.lemmas.Str.{IsUtf8-from_is_utf8, is_utf8-from_IsUtf8}
+use Rattle.text_tokens.specs.Kinds.{Text}
+use Rattle.term_tree.specs.declared.term.Module.{Module}
+use Rattle.atl_reader.specs.declared.fault.ReadFault.{ReadFault}
+use Rattle.atl_reader.specs.Source.{cut_off, read_text, valid_front, read_source, Answers}
+
+pub by_cases : (z : Text) (b : Bool) → is_utf8 z ≡ b → read_source z ≡ cond b (read_text z) (cut_off (utf8_valid_len z) (read_text (valid_front z)))
+unfolding read_source
+by_cases z b e = ap (λ (v : Bool). cond v (read_text z) (cut_off (utf8_valid_len z) (read_text (valid_front z)))) e
+
+pub text_answers : (z t : Text) (r : Result Module ReadFault) → (t ≡ z) × IsUtf8 z → Answers r (read_text t) → Answers r (read_source z)
+text_answers z t r e h = subst (λ (o : Result Module ReadFault). Answers r o) (ap read_text e.0 ∙ sym (by_cases z true (is_utf8-from_IsUtf8 z e.1))) h
+
+no_text : (z : Text) → ¬ (IsUtf8 z) → is_utf8 z ≡ false
+no_text z bad = go (is_utf8 z) refl
+  where
+    go : (b : Bool) → is_utf8 z ≡ b → is_utf8 z ≡ false
+    go true e = absurd (bad (IsUtf8-from_is_utf8 z e))
+    go false e = e
+
+pub front_answers : (z : Text) (n : ℕ) (r : Result Module ReadFault) → ¬ (IsUtf8 z) → n ≡ utf8_valid_len z → Answers r (cut_off n (read_text (take n z))) → Answers r (read_source z)
+front_answers z n r bad e h =
+    subst (λ (o : Result Module ReadFault). Answers r o) (ap (λ (m : ℕ). cut_off m (read_text (take m z))) e ∙ sym (by_cases z false (no_text z bad))) h

@@ -1,0 +1,6 @@
+pub mod Limits
+pub mod Names
+pub mod Lines
+pub mod Terms
+pub mod Source
+pub mod Form
