@@ -1,0 +1,6 @@
+pub mod IndexTree
+pub mod Frames
+pub mod Lowered
+pub mod Correct
+pub mod Scatter
+pub mod Nest
