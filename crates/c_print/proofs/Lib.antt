@@ -1,0 +1,4 @@
+mod Folds
+mod Loops
+mod Places
+mod Examples

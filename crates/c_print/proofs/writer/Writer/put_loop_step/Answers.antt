@@ -1,0 +1,6 @@
+use Rattle.std.proofs.Common.{append_assoc}
+use Rattle.std.proofs.lemmas.Result.{IfOk-equal}
+use Rattle.c_print.proofs.writer.Writer.put_loop_step.Goals as goal
+
+pub returns : goal.returns
+returns c = IfOk-equal _ _ _ _ c.put.ensures (rw (c.in_ok-put_loop-2.ensures, c.in_ok-put_loop.ensures) (simp append_assoc))

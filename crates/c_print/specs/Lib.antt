@@ -1,0 +1,5 @@
+pub mod Level
+pub mod Index
+pub mod Word
+pub mod Statement
+pub mod Program
