@@ -1,0 +1,6 @@
+pub mod CompileLaws
+pub mod Completes
+pub mod DecideLaws
+pub mod FirstContent
+pub mod ReadLemmas
+pub mod ToLowering
