@@ -1,6 +1,6 @@
 -- What the operations take: normal forms have small numbers, and give normal forms.
-use Rattle.std.proofs.Common.{◌≡◌, ℕ, ◌+◌, ◌*◌, ◌<◌, ◌≤◌, ◌^◌, List, refl, ap, sym, ◌∙◌, subst, arith, Bool, true, false, ◌&&◌, ◌⊎◌, inl, inr, Result, Ok, Err, IfOk, MatchResult}
-use Rattle.std.specs.Prelude.{ℤ, negsuc, ◌*ℤ◌}
+use Rattle.std.proofs.Common.{◌≡◌, ℕ, ◌+◌, ◌*◌, ◌<◌, ◌≤◌, ◌^◌, refl, ap, sym, ◌∙◌, subst, arith, Bool, true, false, ◌&&◌, ◌⊎◌, inl, inr, Result, Ok, Err, IfOk, MatchResult}
+use Rattle.std.specs.Prelude.{ℤ, negsuc}
 use Rattle.std.specs.Int.RustNames.{unsigned_abs}
 use mir.Syntax.{w64}
 use mir.Val.{SFits}

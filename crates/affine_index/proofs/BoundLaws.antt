@@ -1,5 +1,5 @@
 -- Atoms are at least 0, and at values within the maxima at most their magnitudes.
-use Rattle.std.proofs.Common.{◌≡◌, ℕ, zero, suc, ◌+◌, ◌*◌, ◌/◌, ◌<◌, ◌≤◌, List, [], ◌∷◌, length, map, refl, ap, sym, ◌∙◌, subst, arith, Bool, true, false, ◌&&◌, nat_le, nat_lt}
+use Rattle.std.proofs.Common.{◌≡◌, ℕ, ◌+◌, ◌*◌, ◌/◌, ◌<◌, ◌≤◌, List, [], ◌∷◌, length, map, refl, ap, sym, ◌∙◌, arith, true, false, nat_le, nat_lt}
 use Rattle.std.specs.Prelude.{ℤ, pos, negsuc, ◌+ℤ◌, ◌*ℤ◌, slice_index}
 use Rattle.std.specs.Int.{int_div_euclid}
 use Rattle.std.specs.Int.RustNames.{unsigned_abs}
@@ -9,11 +9,11 @@ use Rattle.std.proofs.lemmas.Int.{ints}
 use Rattle.std.proofs.Math.Nat.{div-le_self}
 use Rattle.affine_index.specs.Limited.{all_firsts, all_true, atom_scoped, items_scoped}
 use Rattle.affine_index.specs.Magnitude.{atom_magnitude, factors_magnitude, magnitude, terms_magnitude}
-use Rattle.affine_index.specs.Normal.{all_remainders, has_items, is_ordered, is_remainder, layer_good}
+use Rattle.affine_index.specs.Normal.{all_remainders, has_items, is_ordered, is_remainder}
 use Rattle.affine_index.specs.Printed.{WithinMaxima}
 use Rattle.affine_index.specs.Value.{atom_value, items_value, terms_value}
 use Rattle.affine_index.proofs.Factors.{Ordered, mul_parts}
-use Rattle.affine_index.proofs.Induction.{Each, EachTerm, for_atoms, for_items}
+use Rattle.affine_index.proofs.Induction.{Each, EachTerm, for_atoms}
 use Rattle.affine_index.proofs.MagLaws.{mag-Size, mag-Var, mag-Div, mag-Mul, mag-items}
 use Rattle.affine_index.proofs.ReadyLaws.{ordered-Div, scoped-Size, scoped-Var, scoped-Div, scoped-Mul, scoped-items, scoped_term}
 use Rattle.affine_index.proofs.Sorted.{EachItem, GoodItem, ordered-terms}
@@ -21,7 +21,6 @@ use Rattle.affine_index.proofs.SumValue.{items_value-is}
 use Rattle.affine_index.proofs.Values.{factors_value, value-Size, value-Var, value-Div, value-Mul}
 use Rattle.affine_index.specs.declared.form.Atom.{Atom}
 use Rattle.affine_index.specs.declared.form.Atom.TheVariants.{Size, Var, Div, Mul}
-use Rattle.affine_index.specs.declared.form.Atom.TheOpen.{Atom-F}
 use Rattle.affine_index.specs.declared.form.Item.{Item}
 use Rattle.affine_index.specs.declared.form.Items.{Items}
 

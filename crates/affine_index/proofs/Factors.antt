@@ -1,24 +1,22 @@
 -- Products of atoms: lists of factors in order, at most one of which holds an index variable.
-use Rattle.std.proofs.Common.{◌≡◌, ℕ, suc, ◌+◌, ◌≤◌, ◌⊎◌, inl, inr, List, [], ◌∷◌, length, refl, ap, sym, ◌∙◌, subst, arith, Bool, true, false, ◌&&◌, ◌||◌, nat_le, not}
-use Rattle.std.specs.Cmp.{IsTotalOrder}
-use Rattle.std.specs.Ordering.{is_gt, is_le, ordering_reverse}
+use Rattle.std.proofs.Common.{◌≡◌, ℕ, suc, ◌+◌, ◌≤◌, ◌⊎◌, inl, inr, List, [], ◌∷◌, length, refl, ap, sym, ◌∙◌, subst, arith, Bool, true, false, ◌||◌, nat_le, not}
+use Rattle.std.specs.Ordering.{is_le, ordering_reverse}
 use Rattle.std.specs.declared.cmp.Ordering.{Ordering}
 use Rattle.std.specs.declared.cmp.Ordering.TheVariants.{Less, Equal, Greater}
 use Rattle.std.proofs.lemmas.Bool.{and_from, and_parts}
 use Rattle.affine_index.specs.Every.{atoms_every}
-use Rattle.affine_index.specs.Normal.{all_base, atom_good, atom_holds_var, atom_is_ordered, base_layer, factor_before, factors_in_order, items_good, layer_good, no_vars, one_var}
+use Rattle.affine_index.specs.Normal.{all_base, atom_good, atom_holds_var, atom_is_ordered, base_layer, factor_before, factors_in_order, items_good, no_vars, one_var}
 use Rattle.affine_index.specs.Order.{atom_order}
 use Rattle.affine_index.specs.Product.{atom_product, factor_onto, factor_onto_by, factors_of, layer_factors, merged_factors}
 use Rattle.affine_index.proofs.EqualLaws.{atom_order-Equal}
 use Rattle.affine_index.proofs.EveryLaws.{every-Mul}
 use Rattle.affine_index.proofs.Induction.{Each}
 use Rattle.affine_index.proofs.ReadyLaws.{good-Mul, ordered-Mul, out-Size, out-Var, out-Div, out-Mul}
-use Rattle.affine_index.proofs.TotalOrder.{by_kind, order-reverse, order-same, order-trans}
+use Rattle.affine_index.proofs.TotalOrder.{by_kind, order-reverse, order-trans}
 use Rattle.affine_index.proofs.VarLaws.{vars-Mul}
 use Rattle.affine_index.specs.Normal.{any_holds}
 use Rattle.affine_index.specs.declared.form.Atom.{Atom, out-Atom}
 use Rattle.affine_index.specs.declared.form.Atom.TheVariants.{Size, Var, Div, Mul}
-use Rattle.affine_index.specs.declared.form.Atom.TheOpen.{Atom-F}
 use Rattle.affine_index.specs.declared.form.Items.{Items}
 
 -- a fact of each factor of two lists is one of those of both

@@ -1,10 +1,10 @@
 -- What is put for variables is normal.
-use Rattle.std.proofs.Common.{◌≡◌, ℕ, zero, suc, ◌+◌, ◌-◌, ◌<◌, ◌≤◌, List, [], ◌∷◌, length, get_or, refl, ap, sym, ◌∙◌, subst, arith, Bool, true, false, cond, nat_lt}
-use Rattle.std.specs.Prelude.{ℤ, pos}
+use Rattle.std.proofs.Common.{◌≡◌, ℕ, zero, suc, ◌+◌, ◌-◌, ◌<◌, List, [], ◌∷◌, length, get_or, refl, ap, ◌∙◌, arith, true, cond, nat_lt}
+use Rattle.std.specs.Prelude.{pos}
 use Rattle.std.specs.Ordering.{nat_cmp}
 use Rattle.std.specs.declared.cmp.Ordering.{Ordering}
 use Rattle.std.specs.declared.cmp.Ordering.TheVariants.{Less, Equal, Greater}
-use Rattle.affine_index.specs.Form.{literal_form, of_atom, var_form}
+use Rattle.affine_index.specs.Form.{literal_form, var_form}
 use Rattle.affine_index.specs.Normal.{coefficients_fit, is_normal, is_ordered, is_short}
 use Rattle.affine_index.specs.Put.{given, moved, one_by, one_given}
 use Rattle.std.proofs.lemmas.Bool.{and_from}
@@ -13,8 +13,6 @@ use Rattle.affine_index.proofs.EveryLaws.{every-Var}
 use Rattle.affine_index.proofs.OrderedLaws.{atom-ordered, literal-ordered}
 use Rattle.affine_index.proofs.ReadyLaws.{out-Var}
 use Rattle.affine_index.specs.Normal.{atom_good, items_good, layer_good}
-use Rattle.affine_index.specs.Count.{items_count}
-use Rattle.affine_index.specs.declared.form.Atom.{Atom}
 use Rattle.affine_index.specs.declared.form.Atom.TheVariants.{Var}
 use Rattle.affine_index.specs.declared.form.Items.{Items}
 

@@ -29,6 +29,7 @@ pub mod PutValue
 pub mod QuotientLaws
 pub mod ReadyLaws
 pub mod RemainderLaws
+pub mod Renaming
 pub mod Ring
 pub mod Rows
 pub mod Sorted

@@ -1,6 +1,5 @@
 -- Coefficients within the limit, one after the other.
-use Rattle.std.proofs.Common.{◌≡◌, ℕ, ◌<◌, ◌≤◌, ◌^◌, List, [], ◌∷◌, refl, ap, sym, ◌∙◌, arith, Bool, true, false, ◌&&◌}
-use Rattle.std.specs.Prelude.{ℤ}
+use Rattle.std.proofs.Common.{◌≡◌, List, ◌∷◌, true}
 use Rattle.std.proofs.lemmas.Bool.{and_parts}
 use Rattle.affine_index.specs.Normal.{coefficient_fits, terms_fit}
 use Rattle.affine_index.specs.declared.form.Atom.{Atom}

@@ -1,5 +1,5 @@
 -- The equations of the magnitude, and its stop.
-use Rattle.std.proofs.Common.{◌≡◌, ℕ, suc, ◌+◌, ◌*◌, ◌^◌, ◌<◌, ◌≤◌, List, [], ◌∷◌, ◌⊎◌, inl, inr, Bool, true, false, nat_le, zero, length, drop, get_or, map, min, refl, ap, sym, ◌∙◌, arith, drop-cons, add-one}
+use Rattle.std.proofs.Common.{◌≡◌, ℕ, suc, ◌+◌, ◌*◌, ◌<◌, ◌≤◌, List, [], ◌∷◌, ◌⊎◌, inl, inr, true, false, nat_le, zero, length, drop, get_or, map, min, refl, ap, sym, ◌∙◌, arith, drop-cons, add-one}
 use Rattle.std.specs.Prelude.{slice_index}
 use Rattle.std.specs.Int.RustNames.{unsigned_abs}
 use Rattle.affine_index.specs.Magnitude.{atom_magnitude, factors_magnitude, magnitude, magnitude_items_step, magnitude_step, product_of_magnitudes, sum_of_magnitudes, terms_magnitude}

@@ -1,14 +1,9 @@
 -- Multiples of forms: what a product of two numbers takes.
-use Rattle.std.proofs.Common.{◌≡◌, ℕ, ◌+◌, ◌*◌, ◌<◌, ◌≤◌, ◌^◌, List, [], ◌∷◌, refl, ap, sym, ◌∙◌, arith, Bool, true, false}
+use Rattle.std.proofs.Common.{◌≡◌, ℕ, ◌*◌, ◌<◌, ◌≤◌, ◌^◌, [], refl, ap, arith, false}
 use Rattle.std.specs.Prelude.{ℤ, pos, ◌*ℤ◌}
-use Rattle.std.specs.Int.RustNames.{unsigned_abs}
 use Rattle.std.specs.Ordering.{int_eq}
-use Rattle.affine_index.specs.Form.{literal_form, of_atom}
 use Rattle.affine_index.specs.Sum.{scaled, scaled_if, scaled_terms}
-use Rattle.affine_index.specs.Wide.{norm, terms_norm}
 use Rattle.affine_index.proofs.PutFree.{scaled-atom}
-use Rattle.affine_index.specs.declared.form.Atom.{Atom}
-use Rattle.affine_index.specs.declared.form.Item.{Item}
 use Rattle.affine_index.specs.declared.form.Items.{Items}
 
 pub part_fits : (a m n : ℕ) → m ≤ n → a * n < 2 ^ 127 → a * m < 2 ^ 127

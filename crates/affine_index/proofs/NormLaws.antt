@@ -1,18 +1,18 @@
 -- How large the numbers of a sum, a multiple, a product and a quotient are. The size of a form is counted in whole and begun k's.
-use Rattle.std.proofs.Common.{◌≡◌, ℕ, zero, suc, ◌+◌, ◌*◌, ◌-◌, ◌/◌, ◌%◌, ◌<◌, ◌≤◌, List, [], ◌∷◌, refl, ap, sym, ◌∙◌, subst, Bool, true, false, arith}
+use Rattle.std.proofs.Common.{◌≡◌, ℕ, suc, ◌+◌, ◌*◌, ◌-◌, ◌/◌, ◌<◌, ◌≤◌, List, [], ◌∷◌, refl, Bool, true, false, arith}
 use Rattle.std.specs.Prelude.{ℤ, pos, negsuc, ◌+ℤ◌, ◌*ℤ◌}
-use Rattle.std.specs.Int.{int_div_euclid, int_rem_euclid}
+use Rattle.std.specs.Int.{int_div_euclid}
 use Rattle.std.specs.Int.RustNames.{unsigned_abs}
 use Rattle.std.specs.Ordering.{int_eq}
 use Rattle.std.specs.declared.cmp.Ordering.{Ordering}
 use Rattle.std.specs.declared.cmp.Ordering.TheVariants.{Less, Equal, Greater}
 use Rattle.std.proofs.lemmas.Int.{ints, unsigned_abs-mul}
 use Rattle.std.proofs.Math.Nat.{div-le_of_le-mul, div-lt_iff_lt-mul}
-use Rattle.affine_index.specs.Form.{literal_form, of_atom}
+use Rattle.affine_index.specs.Form.{of_atom}
 use Rattle.affine_index.specs.Order.{atom_order}
 use Rattle.affine_index.specs.Product.{atom_product, atom_products, atom_times, product_of, term_products}
-use Rattle.affine_index.specs.Quotient.{item_of, quotient_atom, quotient_of, rest_part, whole_part, whole_terms}
-use Rattle.affine_index.specs.Sum.{add_up, combined, item_if, merged, onto, onto_by, scaled, scaled_if, scaled_terms, sum_of}
+use Rattle.affine_index.specs.Quotient.{quotient_atom, quotient_of, rest_part, whole_part, whole_terms}
+use Rattle.affine_index.specs.Sum.{add_up, item_if, merged, onto, onto_by, scaled, scaled_if, scaled_terms, sum_of}
 use Rattle.affine_index.specs.Wide.{norm, terms_norm}
 use Rattle.affine_index.specs.declared.form.Atom.{Atom}
 use Rattle.affine_index.specs.declared.form.Item.{Item}

@@ -1,21 +1,20 @@
 -- Multiples and quotients of normal forms are normal forms, but for the limits.
-use Rattle.std.proofs.Common.{◌≡◌, ℕ, zero, suc, ◌+◌, ◌*◌, ◌/◌, ◌%◌, ◌<◌, ◌≤◌, List, [], ◌∷◌, refl, ap, sym, ◌∙◌, subst, arith, Bool, true, false, ◌&&◌, nat_le, nat_lt}
-use Rattle.std.specs.Prelude.{ℤ, pos, negsuc, ◌+ℤ◌, ◌*ℤ◌}
+use Rattle.std.proofs.Common.{◌≡◌, ℕ, ◌*◌, ◌<◌, ◌≤◌, List, [], ◌∷◌, refl, ap, sym, ◌∙◌, subst, arith, Bool, true, false, nat_le}
+use Rattle.std.specs.Prelude.{ℤ, pos, negsuc, ◌*ℤ◌}
 use Rattle.std.specs.Int.{int_div_euclid, int_rem_euclid}
 use Rattle.std.specs.Int.RustNames.{unsigned_abs}
 use Rattle.std.specs.Ordering.{int_eq}
 use Rattle.std.proofs.lemmas.Bool.{and_from, and_parts}
 use Rattle.std.proofs.lemmas.Int.{ints, unsigned_abs-mul}
 use Rattle.affine_index.specs.Form.{literal_form, of_atom}
-use Rattle.affine_index.specs.Normal.{all_remainders, atom_good, atom_is_ordered, has_items, is_ordered, is_remainder, items_good, layer_good}
+use Rattle.affine_index.specs.Normal.{all_remainders, atom_good, atom_is_ordered, is_ordered, is_remainder, items_good}
 use Rattle.affine_index.specs.Quotient.{item_of, quotient_atom, quotient_of, rest_part, rest_terms, whole_part, whole_terms}
-use Rattle.affine_index.specs.Sum.{difference_of, item_if, scaled, scaled_if, scaled_terms, sum_of}
+use Rattle.affine_index.specs.Sum.{difference_of, item_if, scaled, scaled_if, scaled_terms}
 use Rattle.affine_index.proofs.EveryLaws.{every-Div}
-use Rattle.affine_index.proofs.ReadyLaws.{good-Div, ordered-Div}
+use Rattle.affine_index.proofs.ReadyLaws.{good-Div}
 use Rattle.affine_index.proofs.Sorted.{Before, EachItem, GoodItem, OrderedTerms, Sorted, ordered-terms, sum-ordered, terms-ordered}
 use Rattle.affine_index.specs.declared.form.Atom.{Atom}
 use Rattle.affine_index.specs.declared.form.Atom.TheVariants.{Div}
-use Rattle.affine_index.specs.declared.form.Atom.TheOpen.{Atom-F}
 use Rattle.affine_index.specs.declared.form.Item.{Item}
 use Rattle.affine_index.specs.declared.form.Items.{Items}
 

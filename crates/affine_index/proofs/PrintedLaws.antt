@@ -1,5 +1,5 @@
 -- Where the magnitude is within the limit, no partial result of the text passes it.
-use Rattle.std.proofs.Common.{◌≡◌, ℕ, zero, suc, ◌+◌, ◌*◌, ◌<◌, ◌≤◌, List, [], ◌∷◌, length, map, refl, ap, sym, ◌∙◌, subst, arith, Bool, true, false, ◌&&◌, nat_le, Option, Some, None}
+use Rattle.std.proofs.Common.{◌≡◌, ℕ, zero, suc, ◌+◌, ◌*◌, ◌<◌, ◌≤◌, List, [], ◌∷◌, length, map, refl, ap, sym, ◌∙◌, arith, Bool, true, false, nat_le, Option, Some}
 use Rattle.std.specs.Prelude.{ℤ, pos, negsuc, ◌+ℤ◌, ◌-ℤ◌, ◌*ℤ◌, slice_index, if◌then◌else◌}
 use Rattle.std.specs.Option.{option_and_then}
 use Rattle.std.specs.Int.{int_div_euclid}
@@ -15,8 +15,8 @@ use Rattle.affine_index.specs.Printed.{WithinMaxima, add_constant, add_positive,
 use Rattle.affine_index.specs.Value.{atom_value, items_value, terms_value}
 use Rattle.affine_index.proofs.BoundLaws.{UpTo, atom_up}
 use Rattle.affine_index.proofs.Factors.{Ordered, mul_parts}
-use Rattle.affine_index.proofs.Induction.{Each, EachTerm, for_atoms, for_items}
-use Rattle.affine_index.proofs.MagLaws.{mag-Size, mag-Var, mag-Div, mag-Mul, mag-items}
+use Rattle.affine_index.proofs.Induction.{Each, EachTerm, for_items}
+use Rattle.affine_index.proofs.MagLaws.{mag-Div, mag-Mul, mag-items}
 use Rattle.affine_index.proofs.ReadyLaws.{ordered-Div, scoped-Div, scoped-Mul, scoped-items, scoped_term}
 use Rattle.affine_index.proofs.Ring.{*ℤ_assoc, *ℤ_distrib}
 use Rattle.affine_index.proofs.Sorted.{EachItem, GoodItem, ordered-terms}

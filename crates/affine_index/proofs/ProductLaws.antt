@@ -1,16 +1,14 @@
 -- One step of a product.
 use Rattle.std.proofs.lemmas.List.{drop_all}
-use Rattle.std.proofs.Common.{◌≡◌, ℕ, suc, ◌+◌, ◌*◌, ◌<◌, ◌≤◌, ◌^◌, ◌⊎◌, inl, inr, List, [], ◌∷◌, ◌++◌, append-nil, length, drop, get_or, add-one, drop-cons, refl, ap, sym, ◌∙◌, subst, arith}
-use Rattle.std.specs.Prelude.{ℤ, pos}
+use Rattle.std.proofs.Common.{◌≡◌, ℕ, ◌+◌, ◌*◌, ◌<◌, ◌≤◌, ◌⊎◌, inl, inr, List, [], ◌∷◌, ◌++◌, append-nil, length, drop, get_or, add-one, drop-cons, refl, ap, sym, ◌∙◌, arith}
 use Rattle.std.specs.Int.RustNames.{unsigned_abs}
 use Rattle.std.specs.declared.cmp.Ordering.TheVariants.{Less, Equal, Greater}
 use Rattle.affine_index.specs.Form.{of_atom}
 use Rattle.affine_index.specs.Order.{atom_order}
-use Rattle.affine_index.specs.Product.{atom_product, atom_products, atom_times, factor_onto, factor_onto_by, factors_of, merged_factors, product_of, term_products}
+use Rattle.affine_index.specs.Product.{atom_product, atom_products, atom_times, factor_onto, factor_onto_by, merged_factors, term_products}
 use Rattle.affine_index.specs.Sum.{add_up, scaled, sum_of}
-use Rattle.affine_index.specs.Wide.{norm, terms_norm}
+use Rattle.affine_index.specs.Wide.{terms_norm}
 use Rattle.affine_index.proofs.Factors.{factors-Size, factors-Var, factors-Div, factors-Mul}
-use Rattle.affine_index.proofs.NormLaws.{atom_times-norm, scaled-norm, sum-norm}
 use Rattle.affine_index.specs.declared.form.Atom.{Atom}
 use Rattle.affine_index.specs.declared.form.Item.{Item}
 use Rattle.affine_index.specs.declared.form.Items.{Items}

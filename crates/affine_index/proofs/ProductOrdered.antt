@@ -1,27 +1,17 @@
 -- Products of normal forms are normal forms, but for the limits.
-use Rattle.std.proofs.Common.{◌≡◌, ℕ, ◌≤◌, ◌<◌, ◌⊎◌, inl, inr, List, [], ◌∷◌, ◌++◌, map, refl, ap, sym, ◌∙◌, subst, arith, Bool, true, false, ◌&&◌, ◌||◌, nat_le}
-use Rattle.std.specs.Prelude.{ℤ, pos, negsuc, ◌+ℤ◌, ◌*ℤ◌}
-use Rattle.std.specs.Int.{int_div_euclid, int_rem_euclid}
+use Rattle.std.proofs.Common.{◌≡◌, ◌⊎◌, inl, inr, List, [], ◌∷◌, refl, sym, ◌∙◌, Bool, true, false, ◌||◌}
+use Rattle.std.specs.Prelude.{ℤ, pos}
 use Rattle.std.specs.Ordering.{int_eq}
-use Rattle.std.proofs.lemmas.Bool.{and_from, and_parts}
-use Rattle.std.proofs.lemmas.Int.{ints}
-use Rattle.affine_index.specs.Form.{literal_form, of_atom, size_form, var_form}
-use Rattle.affine_index.specs.Normal.{all_remainders, atom_good, atom_holds_var, atom_is_ordered, has_items, holds_var, is_ordered, is_remainder, layer_good}
-use Rattle.affine_index.specs.Product.{atom_product, atom_products, atom_times, product_of, product_of_all, term_products}
-use Rattle.affine_index.specs.Put.{put_all, put_atom, put_terms}
-use Rattle.affine_index.specs.Quotient.{quotient_of}
-use Rattle.affine_index.specs.Sum.{add_up, merged, scaled, scaled_if, scaled_terms, sum_of}
-use Rattle.affine_index.proofs.Factors.{NoVar, OneVar, Ordered, any-none, mul_parts, no_var-product, product-ordered}
-use Rattle.affine_index.proofs.Induction.{Each, EachTerm, for_atoms, for_items}
-use Rattle.affine_index.proofs.OrderedLaws.{atom-ordered, literal-ordered, quotient-ordered, scaled-ordered}
-use Rattle.affine_index.proofs.PutLaws.{put-Size, put-Var, put-Div, put-Mul, put-items}
-use Rattle.affine_index.proofs.ReadyLaws.{ordered-Div, ordered-items}
+use Rattle.affine_index.specs.Form.{of_atom}
+use Rattle.affine_index.specs.Normal.{atom_holds_var, holds_var, is_ordered}
+use Rattle.affine_index.specs.Product.{atom_product, atom_products, atom_times, product_of, term_products}
+use Rattle.affine_index.specs.Sum.{add_up, scaled, scaled_if, scaled_terms, sum_of}
+use Rattle.affine_index.proofs.Factors.{NoVar, Ordered, no_var-product, product-ordered}
+use Rattle.affine_index.proofs.OrderedLaws.{atom-ordered, scaled-ordered}
 use Rattle.affine_index.proofs.Sorted.{EachItem, GoodItem, merged-each, ordered-terms, sum-ordered}
-use Rattle.affine_index.proofs.VarLaws.{vars-Size, vars-Div, vars-Mul, vars-items}
-use Rattle.affine_index.specs.Normal.{any_holds, any_term_holds}
+use Rattle.affine_index.proofs.VarLaws.{vars-items}
+use Rattle.affine_index.specs.Normal.{any_term_holds}
 use Rattle.affine_index.specs.declared.form.Atom.{Atom}
-use Rattle.affine_index.specs.declared.form.Atom.TheVariants.{Size, Var, Div, Mul}
-use Rattle.affine_index.specs.declared.form.Atom.TheOpen.{Atom-F}
 use Rattle.affine_index.specs.declared.form.Item.{Item}
 use Rattle.affine_index.specs.declared.form.Items.{Items}
 

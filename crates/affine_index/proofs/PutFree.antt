@@ -1,31 +1,30 @@
 -- Where no variable is held, nothing changes when forms are put for variables.
-use Rattle.std.proofs.Common.{◌≡◌, ℕ, ◌≤◌, ◌<◌, ◌⊎◌, inl, inr, List, [], ◌∷◌, ◌++◌, length, map, refl, ap, sym, ◌∙◌, subst, arith, Bool, true, false, ◌&&◌, ◌||◌, nat_le, nat_lt, append_assoc}
+use Rattle.std.proofs.Common.{◌≡◌, ℕ, ◌≤◌, ◌<◌, List, [], ◌∷◌, ◌++◌, length, map, refl, ap, sym, ◌∙◌, subst, arith, true, false, nat_le, nat_lt, append_assoc}
 use Rattle.std.specs.Prelude.{ℤ, pos, negsuc, ◌+ℤ◌, ◌*ℤ◌}
 use Rattle.std.specs.Int.{int_div_euclid, int_rem_euclid}
 use Rattle.std.specs.Ordering.{int_eq, is_le}
 use Rattle.std.specs.declared.cmp.Ordering.{Ordering}
 use Rattle.std.specs.declared.cmp.Ordering.TheVariants.{Less, Equal, Greater}
-use Rattle.std.proofs.lemmas.Bool.{and_from, and_parts}
+use Rattle.std.proofs.lemmas.Bool.{and_parts}
 use Rattle.std.proofs.lemmas.Int.{ints}
 use Rattle.std.proofs.Math.IntN.{*ℤ-zero}
 use Rattle.std.proofs.Math.Nat.{div-eq_of_lt, mod-eq_of_lt}
-use Rattle.affine_index.specs.Form.{literal_form, of_atom, size_form, var_form}
+use Rattle.affine_index.specs.Form.{literal_form, of_atom}
 use Rattle.affine_index.specs.Normal.{all_remainders, has_items, holds_var, is_ordered, is_remainder, layer_good}
 use Rattle.affine_index.specs.Order.{atom_order}
-use Rattle.affine_index.specs.Product.{atom_product, factor_onto, factor_onto_by, factors_of, merged_factors, product_of, product_of_all}
+use Rattle.affine_index.specs.Product.{factor_onto, factor_onto_by, factors_of, merged_factors, product_of, product_of_all}
 use Rattle.affine_index.specs.Put.{put_all, put_atom, put_terms}
-use Rattle.affine_index.specs.Quotient.{item_of, quotient_atom, quotient_of, rest_part, rest_terms, whole_part, whole_terms}
-use Rattle.affine_index.specs.Sum.{item_if, merged, onto, onto_by, scaled, scaled_if, scaled_terms, sum_of}
-use Rattle.affine_index.proofs.Factors.{AtMost, Base, NoVar, OneVar, Ordered, SortedFactors, any-none, base_factors, factors-Mul, mul_parts}
+use Rattle.affine_index.specs.Quotient.{item_of, quotient_atom, quotient_of, rest_terms, whole_terms}
+use Rattle.affine_index.specs.Sum.{item_if, merged, onto, onto_by, scaled, scaled_if, sum_of}
+use Rattle.affine_index.proofs.Factors.{AtMost, Base, NoVar, Ordered, SortedFactors, any-none, base_factors, factors-Mul, mul_parts}
 use Rattle.affine_index.proofs.Induction.{Each, EachTerm, for_atoms, for_items}
-use Rattle.affine_index.proofs.ProductOrdered.{Free, FreeTerms, free-is}
-use Rattle.affine_index.proofs.PutLaws.{put-Size, put-Var, put-Div, put-Mul, put-items}
-use Rattle.affine_index.proofs.ReadyLaws.{ordered-Div, ordered-items}
-use Rattle.affine_index.proofs.Sorted.{Before, EachItem, GoodItem, OrderedTerms, Sorted, ordered-terms, terms-ordered}
-use Rattle.affine_index.proofs.VarLaws.{vars-Var, vars-Size, vars-Div, vars-Mul, vars-items}
-use Rattle.affine_index.specs.Normal.{any_holds, any_term_holds}
+use Rattle.affine_index.proofs.ProductOrdered.{FreeTerms, free-is}
+use Rattle.affine_index.proofs.PutLaws.{put-Size, put-Div, put-Mul, put-items}
+use Rattle.affine_index.proofs.ReadyLaws.{ordered-Div}
+use Rattle.affine_index.proofs.Sorted.{Before, EachItem, GoodItem, Sorted, ordered-terms}
+use Rattle.affine_index.proofs.VarLaws.{vars-Var, vars-Div, vars-Mul}
 use Rattle.affine_index.specs.declared.form.Atom.{Atom}
-use Rattle.affine_index.specs.declared.form.Atom.TheVariants.{Size, Var, Div, Mul}
+use Rattle.affine_index.specs.declared.form.Atom.TheVariants.{Var, Div, Mul}
 use Rattle.affine_index.specs.declared.form.Atom.TheOpen.{Atom-F}
 use Rattle.affine_index.specs.declared.form.Item.{Item}
 use Rattle.affine_index.specs.declared.form.Items.{Items}
@@ -104,19 +103,19 @@ map-same : (f : ℕ → Items) (fs : List Atom) → Each (λ a. Ordered a → No
 map-same f [] h o n = refl
 map-same f (g ∷ gs) h o n = λ j. h.0 o.0 n.0 j ∷ map-same f gs h.1 o.1 n.1 j
 
-product-same : (fs : List Atom) → Ordered (Mul fs) → product_of_all (map of_atom fs) ≡ of_atom (Mul fs)
-product-same fs o = by fs (mul_parts fs o).two (mul_parts fs o).good.base (mul_parts fs o).good.sorted
+pub product-is : (fs : List Atom) → 2 ≤ length fs → Each Base fs → SortedFactors fs → product_of_all (map of_atom fs) ≡ of_atom (Mul fs)
+product-is [] h b s = open_two h
   where
     open_two : {P : Type 0} → 2 ≤ 0 → P
     open_two h = absurd (omega (arith, h))
-
+product-is (f ∷ []) h b s = open_one h
+  where
     open_one : {P : Type 0} → 2 ≤ 1 → P
     open_one h = absurd (omega (arith, h))
+product-is (f ∷ g ∷ gs) h b s = products-same f (g ∷ gs) b s
 
-    by : (gs : List Atom) → 2 ≤ length gs → Each Base gs → SortedFactors gs → product_of_all (map of_atom gs) ≡ of_atom (Mul gs)
-    by [] h b s = open_two h
-    by (g ∷ []) h b s = open_one h
-    by (g ∷ k ∷ ks) h b s = products-same g (k ∷ ks) b s
+product-same : (fs : List Atom) → Ordered (Mul fs) → product_of_all (map of_atom fs) ≡ of_atom (Mul fs)
+product-same fs o = product-is fs (mul_parts fs o).two (mul_parts fs o).good.base (mul_parts fs o).good.sorted
 
 -- an item after all others is added at the end
 merged-last : (ts : List (Item Atom)) (u : Item Atom) → EachItem (λ t. Before t.atom u) ts → merged ts (u ∷ []) ≡ ts ++ (u ∷ [])
@@ -140,19 +139,29 @@ before_last (p ∷ pre) u ts s = (first pre s.0, before_last pre u ts s.1)
     first [] h = h.0
     first (q ∷ qs) h = first qs h.1
 
-terms-same : (f : ℕ → Items) (pre ts : List (Item Atom)) (c : ℤ) → Sorted (pre ++ ts) → EachItem GoodItem ts → EachItem (λ t. put_atom f t.atom ≡ of_atom t.atom) ts
-    → put_terms f ts (record { terms = pre; constant = c }) ≡ record { terms = pre ++ ts; constant = c }
-terms-same f pre [] c s g h = λ j. record { terms = append_nil pre j; constant = c }
+-- each item with another atom
+abbrev pub with_atoms : (Atom → Atom) → List (Item Atom) → List (Item Atom)
+with_atoms g ts = map (λ t. record { atom = g t.atom; coefficient = t.coefficient }) ts
+
+-- where an atom is put for each atom, and the order stays, the items are those with the new atoms
+pub terms-put : (f : ℕ → Items) (g : Atom → Atom) (pre ts : List (Item Atom)) (c : ℤ) → Sorted (pre ++ with_atoms g ts) → EachItem GoodItem ts → EachItem (λ t. put_atom f t.atom ≡ of_atom (g t.atom)) ts
+    → put_terms f ts (record { terms = pre; constant = c }) ≡ record { terms = pre ++ with_atoms g ts; constant = c }
+terms-put f g pre [] c s good h = λ j. record { terms = append_nil pre j; constant = c }
   where
     append_nil : (xs : List (Item Atom)) → xs ≡ xs ++ []
     append_nil [] = refl
     append_nil (x ∷ xs) = ap (λ r. x ∷ r) (append_nil xs)
-terms-same f pre (t ∷ ts) c s g h =
+terms-put f g pre (t ∷ ts) c s good h =
+    let u : Item Atom = record { atom = g t.atom; coefficient = t.coefficient } in
     ap (put_terms f ts)
-    (ap (sum_of (record { terms = pre; constant = c })) (ap (scaled t.coefficient) h.0 ∙ scaled-atom t.coefficient t.atom g.0.1)
-    ∙ (λ j. record { terms = merged-last pre t (before_last pre t ts s) j; constant = plus_zero c j }))
-    ∙ terms-same f (pre ++ (t ∷ [])) ts c (subst Sorted (sym (append_assoc pre (t ∷ []) ts)) s) g.1 h.1
-    ∙ (λ j. record { terms = append_assoc pre (t ∷ []) ts j; constant = c })
+    (ap (sum_of (record { terms = pre; constant = c })) (ap (scaled t.coefficient) h.0 ∙ scaled-atom t.coefficient (g t.atom) good.0.1)
+    ∙ (λ j. record { terms = merged-last pre u (before_last pre u (with_atoms g ts) s) j; constant = plus_zero c j }))
+    ∙ terms-put f g (pre ++ (u ∷ [])) ts c (subst Sorted (sym (append_assoc pre (u ∷ []) (with_atoms g ts))) s) good.1 h.1
+    ∙ (λ j. record { terms = append_assoc pre (u ∷ []) (with_atoms g ts) j; constant = c })
+
+with_itself : (ts : List (Item Atom)) → with_atoms (λ a. a) ts ≡ ts
+with_itself [] = refl
+with_itself (t ∷ ts) = ap (λ us. t ∷ us) (with_itself ts)
 
 module _ (f : ℕ → Items) where
   abbrev AtomStays : Atom → Type 0
@@ -181,7 +190,8 @@ module _ (f : ℕ → Items) where
   form_stays ts c h o n =
       let i : Items = record { terms = ts; constant = c } in
       let terms = ordered-terms i o in
-      put-items f i ∙ terms-same f [] ts c terms.0 terms.1 (each_stays ts h terms.1 (free-is i n))
+      put-items f i ∙ terms-put f (λ a. a) [] ts c (subst Sorted (sym (with_itself ts)) terms.0) terms.1 (each_stays ts h terms.1 (free-is i n))
+      ∙ ap (λ us. record { terms = us; constant = c }) (with_itself ts)
 
   pub put_atom-free : (a : Atom) → AtomStays a
   put_atom-free = for_atoms AtomStays FormStays (λ s o n. put-Size f s) var_stays div_stays mul_stays form_stays

@@ -1,20 +1,19 @@
 -- How large the numbers of a form with forms put for its variables are: no larger than what is put, times the atoms.
-use Rattle.std.proofs.Common.{◌≡◌, ℕ, zero, suc, ◌+◌, ◌*◌, ◌-◌, ◌^◌, ◌<◌, ◌≤◌, ◌⊎◌, inl, inr, List, [], ◌∷◌, length, map, refl, ap, sym, ◌∙◌, subst, Bool, true, false, arith, nat_le}
+use Rattle.std.proofs.Common.{◌≡◌, ℕ, ◌+◌, ◌*◌, ◌^◌, ◌<◌, ◌≤◌, ◌⊎◌, inl, inr, List, [], ◌∷◌, length, map, ap, ◌∙◌, true, arith, nat_le}
 use Rattle.std.specs.Prelude.{ℤ, pos, negsuc}
 use Rattle.std.specs.Int.RustNames.{unsigned_abs}
 use Rattle.std.proofs.lemmas.Bool.{and_parts}
 use Rattle.affine_index.specs.Count.{atom_count, items_count, terms_count, total}
-use Rattle.affine_index.specs.Form.{literal_form, of_atom}
-use Rattle.affine_index.specs.Normal.{all_remainders, coefficient_fits, coefficients_fit, has_items, is_normal, is_ordered, is_remainder, is_short, layer_good, terms_fit}
-use Rattle.affine_index.specs.Product.{product_of, product_of_all}
+use Rattle.affine_index.specs.Form.{literal_form}
+use Rattle.affine_index.specs.Normal.{all_remainders, coefficient_fits, coefficients_fit, has_items, is_normal, is_ordered, is_remainder, is_short, terms_fit}
+use Rattle.affine_index.specs.Product.{product_of_all}
 use Rattle.affine_index.specs.Put.{put_all, put_atom, put_terms}
-use Rattle.affine_index.specs.Quotient.{quotient_of}
 use Rattle.affine_index.specs.Sum.{scaled, sum_of}
 use Rattle.affine_index.specs.Wide.{norm, terms_norm}
 use Rattle.affine_index.proofs.CountLaws.{count-Size, count-Var, count-Div, count-Mul, count-items}
 use Rattle.affine_index.proofs.Factors.{NoVar, OneVar, Ordered, mul_parts}
-use Rattle.affine_index.proofs.Induction.{Each, EachTerm, for_atoms, for_items}
-use Rattle.affine_index.proofs.NormLaws.{begun, begun-least, product-norm, quotient-size, scaled-norm, scaled-size, size, sum-norm, sum-size}
+use Rattle.affine_index.proofs.Induction.{Each, EachTerm, for_atoms}
+use Rattle.affine_index.proofs.NormLaws.{begun-least, product-norm, quotient-size, scaled-norm, scaled-size, size, sum-norm, sum-size}
 use Rattle.affine_index.proofs.PutFree.{put_atom-free}
 use Rattle.affine_index.proofs.PutLaws.{put-Size, put-Var, put-Div, put-Mul, put-items}
 use Rattle.affine_index.proofs.PutOrdered.{divisor_bounds}
@@ -22,7 +21,6 @@ use Rattle.affine_index.proofs.ReadyLaws.{ordered-Div}
 use Rattle.affine_index.proofs.Sorted.{EachItem, GoodItem, ordered-terms}
 use Rattle.affine_index.specs.declared.form.Atom.{Atom}
 use Rattle.affine_index.specs.declared.form.Atom.TheVariants.{Size, Var, Div, Mul}
-use Rattle.affine_index.specs.declared.form.Atom.TheOpen.{Atom-F}
 use Rattle.affine_index.specs.declared.form.Item.{Item}
 use Rattle.affine_index.specs.declared.form.Items.{Items}
 

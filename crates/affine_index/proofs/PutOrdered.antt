@@ -1,15 +1,14 @@
 -- Forms put for variables give a normal form, but for the limits.
-use Rattle.std.proofs.Common.{◌≡◌, ℕ, ◌≤◌, ◌<◌, ◌⊎◌, inl, inr, List, [], ◌∷◌, map, refl, ap, sym, ◌∙◌, subst, arith, Bool, true, false, nat_le}
+use Rattle.std.proofs.Common.{◌≡◌, ℕ, ◌≤◌, ◌<◌, ◌⊎◌, inl, inr, List, [], ◌∷◌, map, ap, sym, ◌∙◌, subst, arith, true, nat_le}
 use Rattle.std.specs.Prelude.{ℤ, pos}
 use Rattle.std.proofs.lemmas.Bool.{and_parts}
-use Rattle.affine_index.specs.Form.{literal_form, of_atom, size_form}
+use Rattle.affine_index.specs.Form.{literal_form}
 use Rattle.affine_index.specs.Normal.{is_ordered, layer_good}
-use Rattle.affine_index.specs.Product.{product_of, product_of_all}
+use Rattle.affine_index.specs.Product.{product_of_all}
 use Rattle.affine_index.specs.Put.{put_all, put_atom, put_terms}
-use Rattle.affine_index.specs.Quotient.{quotient_of}
 use Rattle.affine_index.specs.Sum.{scaled, sum_of}
 use Rattle.affine_index.proofs.Factors.{NoVar, OneVar, Ordered, mul_parts}
-use Rattle.affine_index.proofs.Induction.{Each, EachTerm, for_atoms, for_items}
+use Rattle.affine_index.proofs.Induction.{Each, EachTerm, for_items}
 use Rattle.affine_index.proofs.OrderedLaws.{atom-ordered, literal-ordered, quotient-ordered, scaled-ordered}
 use Rattle.affine_index.proofs.ProductOrdered.{Apart, Free, product-free, products-ordered}
 use Rattle.affine_index.proofs.PutFree.{put_atom-free}

@@ -1,28 +1,27 @@
 -- What the calls owe one another where forms are put for variables.
-use Rattle.std.proofs.Common.{◌≡◌, ℕ, zero, suc, ◌+◌, ◌-◌, ◌*◌, ◌^◌, ◌<◌, ◌≤◌, ◌⊎◌, inl, inr, List, [], ◌∷◌, length, map, drop, get_or, drop-cons, add-one, refl, ap, sym, ◌∙◌, subst, Bool, true, false, arith, nat_le, nat_lt}
+use Rattle.std.proofs.Common.{◌≡◌, ℕ, zero, suc, ◌+◌, ◌*◌, ◌^◌, ◌<◌, ◌≤◌, ◌⊎◌, inl, inr, List, [], ◌∷◌, length, map, drop, get_or, drop-cons, add-one, refl, ap, sym, ◌∙◌, subst, true, arith, nat_le}
 use Rattle.std.specs.Prelude.{ℤ, pos, negsuc}
 use Rattle.std.specs.Int.RustNames.{unsigned_abs}
 use Rattle.std.proofs.lemmas.Bool.{and_from, and_parts}
 use Rattle.affine_index.specs.Count.{atom_count, items_count, terms_count, total}
 use Rattle.affine_index.specs.Every.{terms_every}
 use Rattle.affine_index.specs.Form.{literal_form}
-use Rattle.affine_index.specs.Normal.{all_remainders, atom_good, atom_is_ordered, coefficient_fits, coefficients_fit, has_items, is_normal, is_ordered, is_remainder, is_short, items_good, layer_good, terms_fit}
+use Rattle.affine_index.specs.Normal.{all_remainders, atom_good, atom_is_ordered, coefficient_fits, coefficients_fit, has_items, is_normal, is_ordered, is_remainder, is_short, items_good, terms_fit}
 use Rattle.affine_index.specs.Product.{product_of, product_of_all}
 use Rattle.affine_index.specs.Put.{put_all, put_atom, put_terms}
 use Rattle.affine_index.specs.Sum.{scaled, sum_of}
 use Rattle.affine_index.specs.Wide.{norm}
-use Rattle.affine_index.proofs.CountLaws.{count-Div, count-Mul, count-items}
-use Rattle.affine_index.proofs.Factors.{NoVar, OneVar, Ordered, every-each, mul_parts}
-use Rattle.affine_index.proofs.Induction.{Each, EachTerm}
-use Rattle.affine_index.proofs.NormLaws.{scaled-norm, sum-norm}
+use Rattle.affine_index.proofs.CountLaws.{count-Div, count-Mul}
+use Rattle.affine_index.proofs.Factors.{OneVar, Ordered, mul_parts}
+use Rattle.affine_index.proofs.Induction.{Each}
+use Rattle.affine_index.proofs.NormLaws.{scaled-norm}
 use Rattle.affine_index.proofs.PutLaws.{put-items}
 use Rattle.affine_index.proofs.PutNorm.{atom_small, factors_norm, fit_is, normal-norm, normal_parts, terms_most}
 use Rattle.affine_index.proofs.PutOrdered.{divisor_bounds}
 use Rattle.affine_index.proofs.ReadyLaws.{ordered-Div, ordered-items}
-use Rattle.affine_index.proofs.Sorted.{EachItem, GoodItem, ordered-terms}
+use Rattle.affine_index.proofs.Sorted.{EachItem, ordered-terms}
 use Rattle.affine_index.specs.declared.form.Atom.{Atom}
 use Rattle.affine_index.specs.declared.form.Atom.TheVariants.{Div, Mul}
-use Rattle.affine_index.specs.declared.form.Atom.TheOpen.{Atom-F}
 use Rattle.affine_index.specs.declared.form.Item.{Item}
 use Rattle.affine_index.specs.declared.form.Items.{Items}
 

@@ -1,5 +1,5 @@
 -- What is put for a variable has its value, so the whole keeps its value.
-use Rattle.std.proofs.Common.{◌≡◌, ℕ, zero, suc, ◌+◌, ◌-◌, ◌<◌, ◌≤◌, List, [], ◌∷◌, ◌++◌, take, drop, length, map, get_or, refl, ap, sym, ◌∙◌, subst, Bool, true, false, cond, nat_lt, arith}
+use Rattle.std.proofs.Common.{◌≡◌, ℕ, ◌+◌, ◌-◌, ◌<◌, ◌≤◌, List, [], ◌∷◌, ◌++◌, take, drop, length, map, get_or, refl, ap, sym, ◌∙◌, Bool, true, false, cond, nat_lt, arith}
 use Rattle.std.specs.Prelude.{ℤ, pos, ◌+ℤ◌, ◌*ℤ◌, slice_index}
 use Rattle.std.specs.Cmp.{ranks}
 use Rattle.std.specs.Int.{int_div_euclid}
@@ -10,14 +10,13 @@ use Rattle.std.specs.declared.cmp.Ordering.TheVariants.{Less, Equal, Greater}
 use Rattle.std.proofs.lemmas.Int.{ints}
 use Rattle.std.proofs.lemmas.List.{get_or-append_right, get_or_append_left, get_or-drop, get_or-take, length-take}
 use Rattle.std.proofs.lemmas.List.Edits.{get_or-insert_above, get_or-insert_at, get_or-insert_below}
-use Rattle.affine_index.specs.Form.{literal_form, of_atom, size_form, var_form}
+use Rattle.affine_index.specs.Form.{literal_form, var_form}
 use Rattle.affine_index.specs.Normal.{is_ordered}
-use Rattle.affine_index.specs.Product.{product_of, product_of_all}
-use Rattle.affine_index.specs.Put.{given, moved, one_by, one_given, put_all, put_atom, put_terms, put_var, shifted}
+use Rattle.affine_index.specs.Put.{moved, one_by, one_given, put_all, put_atom, put_terms, put_var, shifted}
 use Rattle.affine_index.specs.Sum.{scaled, sum_of}
 use Rattle.affine_index.specs.Value.{atom_value, items_value, terms_value}
 use Rattle.affine_index.proofs.Factors.{Ordered, mul_parts}
-use Rattle.affine_index.proofs.Induction.{Each, EachTerm, for_atoms, for_items}
+use Rattle.affine_index.proofs.Induction.{Each, EachTerm, for_items}
 use Rattle.affine_index.proofs.PutLaws.{put-Size, put-Var, put-Div, put-Mul, put-items}
 use Rattle.affine_index.proofs.PutOrdered.{divisor_bounds}
 use Rattle.affine_index.proofs.ReadyLaws.{ordered-Div}

@@ -1,17 +1,14 @@
 -- One step of a quotient.
-use Rattle.std.proofs.Common.{◌≡◌, ℕ, ◌+◌, ◌*◌, ◌<◌, ◌≤◌, ◌^◌, List, [], ◌∷◌, ◌++◌, length, drop, get_or, refl, ap, sym, ◌∙◌, append_assoc, arith, Bool, true, false}
+use Rattle.std.proofs.Common.{◌≡◌, ℕ, ◌+◌, ◌<◌, ◌^◌, List, ◌∷◌, length, drop, get_or, ap, arith, true, false}
 use Rattle.std.specs.Prelude.{ℤ, pos}
-use Rattle.std.specs.Int.{int_div_euclid, int_rem_euclid}
-use Rattle.std.specs.Int.RustNames.{unsigned_abs}
+use Rattle.std.specs.Int.{int_div_euclid}
 use Rattle.std.specs.Ordering.{int_eq}
-use Rattle.affine_index.specs.Form.{of_atom}
-use Rattle.affine_index.specs.Quotient.{item_of, quotient_atom, quotient_of, rest_part, rest_terms, whole_part, whole_terms}
-use Rattle.affine_index.specs.Sum.{item_if, scaled}
+use Rattle.affine_index.specs.Quotient.{item_of, quotient_atom, rest_part, whole_part, whole_terms}
+use Rattle.affine_index.specs.Sum.{item_if}
 use Rattle.affine_index.specs.Wide.{norm}
 use Rattle.affine_index.proofs.NormLaws.{quotient_atom-norm, whole-most}
 use Rattle.affine_index.proofs.ProductLaws.{drop-item}
 use Rattle.affine_index.specs.declared.form.Atom.{Atom}
-use Rattle.affine_index.specs.declared.form.Atom.TheVariants.{Div}
 use Rattle.affine_index.specs.declared.form.Item.{Item}
 use Rattle.affine_index.specs.declared.form.Items.{Items}
 

@@ -1,12 +1,12 @@
 -- What is left by a floor quotient.
-use Rattle.std.proofs.Common.{◌≡◌, ℕ, ◌+◌, ◌*◌, ◌<◌, ◌≤◌, ◌^◌, List, refl, ap, sym, ◌∙◌, arith, true}
-use Rattle.std.specs.Prelude.{ℤ, pos, negsuc, ◌+ℤ◌, ◌*ℤ◌}
-use Rattle.std.specs.Int.{int_div_euclid, int_rem_euclid}
+use Rattle.std.proofs.Common.{◌≡◌, ℕ, ◌+◌, ◌*◌, ◌<◌, ◌≤◌, ◌^◌, List, ap, ◌∙◌, arith, true}
+use Rattle.std.specs.Prelude.{pos, negsuc, ◌*ℤ◌}
+use Rattle.std.specs.Int.{int_rem_euclid}
 use Rattle.std.specs.Int.RustNames.{unsigned_abs}
 use Rattle.std.proofs.lemmas.Int.{ints}
 use Rattle.affine_index.specs.Normal.{is_normal, is_ordered}
 use Rattle.affine_index.specs.Quotient.{quotient_atom, quotient_of, remainder_of, rest_part, whole_part}
-use Rattle.affine_index.specs.Sum.{difference_of, scaled, sum_of}
+use Rattle.affine_index.specs.Sum.{scaled}
 use Rattle.affine_index.specs.Value.{items_value}
 use Rattle.affine_index.specs.Wide.{norm}
 use Rattle.affine_index.proofs.ArithmeticLaws.{normal-ordered}

@@ -1,6 +1,6 @@
 -- Lists of items in order, each atom before all that follow.
-use Rattle.std.proofs.Common.{◌≡◌, ℕ, List, [], ◌∷◌, refl, ap, sym, ◌∙◌, subst, Bool, true, false, ◌&&◌}
-use Rattle.std.specs.Prelude.{ℤ, pos, ◌+ℤ◌}
+use Rattle.std.proofs.Common.{◌≡◌, List, [], ◌∷◌, refl, ap, sym, ◌∙◌, subst, Bool, true, false}
+use Rattle.std.specs.Prelude.{pos, ◌+ℤ◌}
 use Rattle.std.specs.Ordering.{int_eq, is_lt, ordering_reverse}
 use Rattle.std.specs.declared.cmp.Ordering.{Ordering}
 use Rattle.std.specs.declared.cmp.Ordering.TheVariants.{Less, Equal, Greater}
@@ -8,7 +8,7 @@ use Rattle.std.proofs.lemmas.Bool.{and_from, and_parts}
 use Rattle.affine_index.specs.Normal.{atom_good, atom_is_ordered, is_ordered, items_good, none_zero, stands_before, terms_in_order}
 use Rattle.affine_index.specs.Every.{terms_every}
 use Rattle.affine_index.specs.Order.{atom_order}
-use Rattle.affine_index.specs.Sum.{combined, item_if, merged, onto, onto_by, sum_of}
+use Rattle.affine_index.specs.Sum.{item_if, merged, onto, onto_by, sum_of}
 use Rattle.affine_index.proofs.EqualLaws.{atom_order-Equal}
 use Rattle.affine_index.proofs.EveryLaws.{every-items}
 use Rattle.affine_index.proofs.ReadyLaws.{ordered-items}

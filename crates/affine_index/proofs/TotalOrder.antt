@@ -1,5 +1,5 @@
 -- The order of atoms is a total order: an atom is written as a list of numbers, and the order is that of the lists.
-use Rattle.std.proofs.Common.{◌≡◌, ℕ, List, [], ◌∷◌, ◌++◌, map, refl, ap, sym, ◌∙◌, subst, arith}
+use Rattle.std.proofs.Common.{◌≡◌, ℕ, List, [], ◌∷◌, map, refl, ap, sym, ◌∙◌, subst, arith}
 use Rattle.std.specs.Prelude.{ℤ, pos, negsuc}
 use Rattle.std.specs.Cmp.{IsTotalOrder, int_cmp_total, on_total}
 use Rattle.std.specs.Cmp.Lexicographic.{lists_total, slice_cmp}

@@ -1,5 +1,5 @@
 -- Atoms of normal forms are at least 0.
-use Rattle.std.proofs.Common.{◌≡◌, ℕ, ◌+◌, ◌*◌, ◌/◌, List, [], ◌∷◌, refl, ap, sym, ◌∙◌, arith, true, ◌&&◌, nat_le}
+use Rattle.std.proofs.Common.{◌≡◌, ℕ, ◌+◌, ◌*◌, ◌/◌, List, [], ◌∷◌, refl, ap, ◌∙◌, true, nat_le}
 use Rattle.std.specs.Prelude.{ℤ, pos, negsuc, ◌+ℤ◌, ◌*ℤ◌, slice_index}
 use Rattle.std.specs.Int.{int_div_euclid}
 use Rattle.std.proofs.lemmas.Bool.{and_parts}
@@ -12,7 +12,7 @@ use Rattle.affine_index.proofs.Sorted.{EachItem, GoodItem, ordered-terms}
 use Rattle.affine_index.proofs.SumValue.{items_value-is}
 use Rattle.affine_index.proofs.Values.{factors_value, value-Size, value-Var, value-Div, value-Mul}
 use Rattle.affine_index.specs.declared.form.Atom.{Atom}
-use Rattle.affine_index.specs.declared.form.Atom.TheVariants.{Size, Var, Div, Mul}
+use Rattle.affine_index.specs.declared.form.Atom.TheVariants.{Div, Mul}
 use Rattle.affine_index.specs.declared.form.Item.{Item}
 use Rattle.affine_index.specs.declared.form.Items.{Items}
 

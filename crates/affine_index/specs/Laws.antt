@@ -1,5 +1,5 @@
 -- Laws of forms that hold of all of them.
-use Rattle.std.specs.Prelude.{◌≡◌, ℕ, ◌≤◌, true, List, length, ℤ, pos, Some}
+use Rattle.std.specs.Prelude.{◌≡◌, ℕ, ◌≤◌, true, List, length, pos, Some}
 use Rattle.affine_index.specs.Limited.{items_scoped}
 use Rattle.affine_index.specs.Magnitude.{magnitude}
 use Rattle.affine_index.specs.Normal.{atom_is_ordered}

@@ -1,12 +1,9 @@
 -- What is put for variables, as the operations take it.
-use Rattle.std.specs.Prelude.{◌≡◌, ℕ, ◌+◌, ◌^◌, true, Bool, ◌||◌, nat_lt}
-use Rattle.affine_index.specs.Every.{items_every}
+use Rattle.std.specs.Prelude.{◌≡◌, ℕ, true}
 use Rattle.affine_index.specs.Normal.{is_normal}
 use Rattle.affine_index.specs.Put.{given, moved, one_given}
 use Rattle.affine_index.specs.declared.put.Put.{Put}
 use Rattle.affine_index.specs.declared.put.Put.TheVariants.{Given, One, Moved}
-use Rattle.affine_index.specs.declared.form.Atom.{Atom, out-Atom}
-use Rattle.affine_index.specs.declared.form.Atom.TheOpen.{Atom-F}
 use Rattle.affine_index.specs.declared.form.Items.{Items}
 
 -- the form for each variable

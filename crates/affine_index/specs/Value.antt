@@ -18,18 +18,22 @@ weighted [] = pos 0
 weighted (t ∷ ts) = (t.coefficient *ℤ t.atom) +ℤ weighted ts
 
 module _ (sizes vars : List ℕ) where
+  -- a size and a variable have their own number, a quotient is the floor, a product that of its factors
   abbrev pub atom_step : Atom-F ℤ ℤ → ℤ
   atom_step (Atom-F.Size s) = pos (slice_index sizes s)
   atom_step (Atom-F.Var v) = pos (slice_index vars v)
   atom_step (Atom-F.Div items k) = int_div_euclid items (pos k)
   atom_step (Atom-F.Mul factors) = product factors
 
+  -- the sum of the items and the constant
   abbrev pub items_step : Items-F ℤ ℤ → ℤ
   items_step i = weighted i.terms +ℤ i.constant
 
+  -- the value of an atom
   abbrev pub atom_value : Atom → ℤ
   atom_value = fold-Atom ℤ ℤ atom_step items_step
 
+  -- the value of a form
   abbrev pub items_value : Items → ℤ
   items_value = fold-Items ℤ ℤ atom_step items_step
 

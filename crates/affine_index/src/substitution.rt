@@ -53,7 +53,7 @@ impl Aff {
     /// Adds to each variable number from one on.
     pub fn shift(&self, alloc: Global, from: u32, by: u32) -> Result<Aff, AffRefusal>
         requires { IsTrue (numbers_fit from by self.now) }
-        ensures form { MatchResult result (λ r. r ≡ shifted from by self.now) (λ e. Refused (shifted from by self.now) e) }
+        ensures form { MatchResult result (λ r. r ≡ shifted from by self.now) (λ e. e ≡ AffRefusal.Memory) }
         ensures value { IfOk result (λ r. (s w : List ℕ) → from ≤ length w → items_value s w r ≡ items_value s (take from w ++ drop (from + by) w) self.now) }
     {
         put(alloc, self, &Put::Moved(from, by))

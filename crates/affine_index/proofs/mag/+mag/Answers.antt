@@ -1,9 +1,7 @@
-use Rattle.std.proofs.Common.{rules, ◌≡◌, ◌∙◌, ap, sym, ◌+◌, ◌*◌, ◌^◌, drop, length, min, arith, true, ◌&&◌}
-use Rattle.std.proofs.lemmas.Bool.{and_parts}
+use Rattle.std.proofs.Common.{rules, ◌≡◌, ◌∙◌, ap, sym, ◌+◌, ◌*◌, ◌^◌, drop, length, min, arith}
 use Rattle.affine_index.proofs.LimitedLaws.{ready-Mul, ready-items}
 use Rattle.affine_index.proofs.MagLaws.{factors-next, stop-times}
 use Rattle.affine_index.proofs.ReadyLaws.{atoms-ready-next}
-use Rattle.affine_index.specs.Limited.{atom_ready, atoms_ready, terms_ready}
 use Rattle.affine_index.specs.Magnitude.{atom_magnitude, factors_magnitude}
 use Rattle.affine_index.specs.declared.form.Atom.TheViews.{the_lemmas}
 use Rattle.affine_index.proofs.mag.+mag.Goals as goal

@@ -1,14 +1,13 @@
-use Rattle.std.proofs.Common.{rules, ◌≡◌, ◌∙◌, ap, sym, ℕ, ◌+◌, ◌*◌, ◌<◌, ◌≤◌, length, drop, get_or, arith}
+use Rattle.std.proofs.Common.{rules, ◌≡◌, ◌∙◌, ap, ◌+◌, ◌<◌, length, drop, get_or, arith}
 use Rattle.std.proofs.lemmas.Int.{to_z-of_z}
-use Rattle.std.specs.Int.RustNames.{unsigned_abs}
 use mir.Syntax.{w128}
 use mir.Val.{SFits}
-use Rattle.affine_index.proofs.NormLaws.{atom_times-norm, scaled-norm, sum-norm}
-use Rattle.affine_index.proofs.ProductLaws.{atom_times-step, norm-step, product-step}
+use Rattle.affine_index.proofs.NormLaws.{scaled-norm, sum-norm}
+use Rattle.affine_index.proofs.ProductLaws.{atom_times-step, norm-step}
 use Rattle.affine_index.specs.Form.{of_atom}
-use Rattle.affine_index.specs.Product.{atom_product, atom_products, atom_times, term_products}
+use Rattle.affine_index.specs.Product.{atom_product, atom_products}
 use Rattle.affine_index.specs.Sum.{add_up, scaled, sum_of}
-use Rattle.affine_index.specs.Wide.{norm, terms_norm}
+use Rattle.affine_index.specs.Wide.{norm}
 use Rattle.affine_index.proofs.product.atom_times.Goals as goal
 
 pub loop-at-preserved : goal.loop-at-preserved

@@ -1,17 +1,15 @@
-use Rattle.std.proofs.Common.{rules, ◌≡◌, ◌∙◌, ap, sym, subst, ℕ, ◌^◌, ◌+◌, ◌*◌, ◌<◌, ◌≤◌, length, drop, get_or, arith}
+use Rattle.std.proofs.Common.{rules, ◌≡◌, ◌∙◌, ap, sym, subst, ◌^◌, ◌+◌, ◌*◌, ◌<◌, length, drop, get_or, arith}
 use Rattle.std.proofs.lemmas.Int.{to_z-of_z}
 use Rattle.std.specs.Int.RustNames.{unsigned_abs}
 use Rattle.std.specs.Prelude.{ℤ}
 use mir.Syntax.{w128}
 use mir.Val.{SFits}
 use Rattle.affine_index.proofs.NormLaws.{atom_times-norm, scaled-norm, sum-norm}
-use Rattle.affine_index.proofs.ProductLaws.{atom_times-step, norm-step, product-step}
-use Rattle.affine_index.specs.Form.{of_atom}
-use Rattle.affine_index.specs.Product.{atom_product, atom_products, atom_times, term_products}
+use Rattle.affine_index.proofs.ProductLaws.{norm-step, product-step}
+use Rattle.affine_index.specs.Product.{atom_times, term_products}
 use Rattle.affine_index.specs.Sum.{add_up, scaled, sum_of}
-use Rattle.affine_index.specs.Wide.{norm, terms_norm}
+use Rattle.affine_index.specs.Wide.{norm}
 use Rattle.affine_index.proofs.ProductLaws.{most}
-use Rattle.affine_index.specs.Product.{product_of}
 use Rattle.affine_index.proofs.product.product.Goals as goal
 
 pub loop-at-preserved : goal.loop-at-preserved

@@ -1,5 +1,5 @@
 use Rattle.std.proofs.Common.{◌≡◌, ◌≤◌, ◌+◌, ◌*◌, drop}
-use Rattle.affine_index.specs.Product.{atom_products, atom_times, product_of, term_products}
+use Rattle.affine_index.specs.Product.{product_of, term_products}
 use Rattle.affine_index.specs.Sum.{add_up}
 use Rattle.affine_index.specs.Wide.{norm, terms_norm}
 use Rattle.affine_index.proofs.product.product.Given as goal

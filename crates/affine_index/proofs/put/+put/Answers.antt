@@ -1,4 +1,4 @@
-use Rattle.std.proofs.Common.{rules, ◌≡◌, ◌∙◌, ap, sym, subst, ℕ, ◌+◌, ◌-◌, ◌*◌, ◌<◌, ◌^◌, true, drop, length, get_or, arith, IfOk}
+use Rattle.std.proofs.Common.{rules, ◌≡◌, ◌∙◌, ap, sym, subst, ◌+◌, ◌-◌, ◌*◌, ◌<◌, ◌^◌, drop, length, arith}
 use Rattle.std.proofs.lemmas.Int.{to_z-of_z}
 use Rattle.std.specs.Prelude.{ℤ}
 use Rattle.std.specs.Int.RustNames.{unsigned_abs}
@@ -8,7 +8,7 @@ use Rattle.affine_index.proofs.ArithmeticLaws.{ok_same}
 use Rattle.affine_index.proofs.Factors.{Ordered}
 use Rattle.affine_index.proofs.NormLaws.{sum-norm}
 use Rattle.affine_index.proofs.PutLaws.{put-items}
-use Rattle.affine_index.proofs.PutSteps.{dividend-normal, dividend-room, divisor-positive, factor-few, factor-ordered, form-terms, item_facts, product-drop, product-next, product-room, put_terms-next, room, room-next, scaled-fits}
+use Rattle.affine_index.proofs.PutSteps.{dividend-normal, dividend-room, divisor-positive, factor-few, factor-ordered, form-terms, item_facts, product-drop, product-next, product-room, put_terms-next, room-next, scaled-fits}
 use Rattle.affine_index.specs.Count.{atom_count, terms_count}
 use Rattle.affine_index.specs.Every.{terms_every}
 use Rattle.affine_index.specs.Form.{literal_form}
@@ -17,10 +17,7 @@ use Rattle.affine_index.specs.Put.{put_all, put_atom, put_terms}
 use Rattle.affine_index.specs.Puts.{what_put}
 use Rattle.affine_index.specs.Sum.{scaled, sum_of}
 use Rattle.affine_index.specs.Wide.{norm}
-use Rattle.affine_index.specs.declared.form.Atom.{Atom}
-use Rattle.affine_index.specs.declared.form.Atom.TheVariants.{Div}
 use Rattle.affine_index.specs.declared.form.Atom.TheViews.{the_lemmas}
-use Rattle.affine_index.specs.declared.form.Items.{Items}
 use Rattle.affine_index.proofs.put.+put.Goals as goal
 
 pub put_atom-put_items-requires : goal.put_atom-put_items-requires

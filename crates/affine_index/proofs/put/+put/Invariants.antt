@@ -1,4 +1,4 @@
-use Rattle.std.proofs.Common.{◌≡◌, ◌≤◌, ◌+◌, ◌*◌, ◌^◌, drop, length, map}
+use Rattle.std.proofs.Common.{◌≡◌, ◌≤◌, ◌+◌, ◌^◌, drop, length, map}
 use Rattle.affine_index.specs.Form.{literal_form}
 use Rattle.affine_index.specs.Product.{product_of_all}
 use Rattle.affine_index.specs.Put.{put_atom, put_terms}

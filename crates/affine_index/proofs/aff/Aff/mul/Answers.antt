@@ -1,4 +1,4 @@
-use Rattle.std.proofs.Common.{rules, ◌≡◌, ◌∙◌, ap, sym, false, ◌&&◌, ℕ, List}
+use Rattle.std.proofs.Common.{rules, ◌≡◌, ◌∙◌, false, ◌&&◌, ℕ, List}
 use Rattle.std.specs.Prelude.{◌*ℤ◌}
 use Rattle.affine_index.proofs.ArithmeticLaws.{op_value, ordered-product, product-room, second-room}
 use Rattle.affine_index.proofs.Values.{value-product}

@@ -1,9 +1,9 @@
-use Rattle.std.proofs.Common.{rules, ◌≡◌, ◌∙◌, ap, sym, subst, ℕ, ◌*◌, ◌<◌, ◌≤◌, ◌^◌, List, arith}
+use Rattle.std.proofs.Common.{rules, ◌≡◌, ◌∙◌, sym, subst, ℕ, ◌*◌, ◌<◌, ◌^◌, List}
 use Rattle.std.proofs.lemmas.Int.{to_z-of_z}
 use Rattle.std.specs.Prelude.{◌*ℤ◌, ℤ}
 use Rattle.std.specs.Int.RustNames.{unsigned_abs}
 use mir.Syntax.{w64, w128}
-use mir.Val.{SFits, of_z, to_z}
+use mir.Val.{SFits}
 use Rattle.affine_index.proofs.ArithmeticLaws.{op_value, ordered-scaled, scale-room, word-most}
 use Rattle.affine_index.proofs.Values.{value-scaled}
 use Rattle.affine_index.specs.Sum.{scaled}

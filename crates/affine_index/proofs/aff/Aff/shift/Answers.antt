@@ -1,21 +1,19 @@
-use Rattle.std.proofs.Common.{◌≡◌, ◌∙◌, ap, subst, true, ℕ, ◌+◌, ◌≤◌, ◌++◌, List, drop, length, take, Result, MatchResult, IfOk}
-use Rattle.std.specs.Prelude.{pos, slice_index}
-use Rattle.std.specs.List.{insert}
+use Rattle.std.proofs.Common.{◌≡◌, ℕ, ◌+◌, ◌≤◌, ◌++◌, List, drop, length, take}
 use Rattle.affine_index.proofs.ArithmeticLaws.{if_ok, normal-ordered}
-use Rattle.affine_index.proofs.GivenLaws.{given-normal, moved-normal, one-normal}
-use Rattle.affine_index.proofs.PutOrdered.{put_all-ordered}
-use Rattle.affine_index.proofs.PutValue.{value-put_all, value-put_var, value-shifted}
-use Rattle.affine_index.specs.Normal.{Refused, is_ordered}
-use Rattle.affine_index.specs.Put.{given, put_all, put_var, shifted}
-use Rattle.affine_index.specs.Puts.{what_put}
+use Rattle.affine_index.proofs.GivenLaws.{moved-normal}
+use Rattle.affine_index.proofs.PutValue.{value-shifted}
+use Rattle.affine_index.proofs.Renaming.{refused_for_memory, shifted-refused}
+use Rattle.affine_index.specs.Put.{shifted}
 use Rattle.affine_index.specs.Value.{items_value}
-use Rattle.affine_index.specs.declared.aff.Aff.{Aff}
-use Rattle.affine_index.specs.declared.form.Items.{Items}
-use Rattle.affine_index.specs.declared.refusal.AffRefusal.{AffRefusal}
 use Rattle.affine_index.proofs.aff.Aff.shift.Goals as goal
 
 pub put-requires : goal.put-requires
 put-requires c = moved-normal c.args.from c.args.by
+
+pub returns-clause-form : goal.returns-clause-form
+returns-clause-form c =
+    let i = c.args.self.now in
+    refused_for_memory (shifted c.args.from c.args.by i) c.put.result (λ e. shifted-refused c.args.from c.args.by i e c.put.ensures.normal) c.put.ensures.form
 
 pub returns-clause-value : goal.returns-clause-value
 returns-clause-value c =
