@@ -18,11 +18,7 @@ loop-at-preserved c =
     let t = c.get-item.result.now in
     let lt : at < length ts = omega (arith, c.loop-at-test.true, c.len-at-end.ensures, ap length c.terms.ensures) in
     let e : t ≡ get_or ts at t = c.get-item.ensures ∙ ap (λ us. get_or us at t) c.terms-in-loop-at.ensures in
-    let wide : SFits w128 c.coefficient.result = search rules in
-    let z = to_z-of_z w128 c.coefficient.result wide ∙ c.coefficient.ensures in
-    let p : c.in_ok-product.product ≡ scaled t.coefficient (of_atom (atom_product x t.atom)) =
-    c.in_ok-product.ensures {u = tt} ∙ (λ k. scaled (z k) (of_atom ((c.in_ok-atoms.ensures {u = tt} ∙ ap (atom_product x) c.atom.ensures) k))) in
-    let s : c.in_ok-total-2.total ≡ sum_of c.loop-at.total (scaled t.coefficient (of_atom (atom_product x t.atom))) = c.in_ok-total-2.ensures {u = tt} ∙ ap (sum_of c.loop-at.total) p in
+    let s : c.in_ok-total-2.total ≡ sum_of c.loop-at.total (scaled t.coefficient (of_atom (atom_product x t.atom))) = c.in_ok-total-2.ensures {u = tt} in
     record {
       room = omega (arith, ap norm s, sum-norm c.loop-at.total (scaled t.coefficient (of_atom (atom_product x t.atom))), scaled-norm t.coefficient (of_atom (atom_product x t.atom)), norm-step ts at t lt e, c.loop-at.invariant.room);
       rest = ap (add_up (atom_products x (drop (at + 1) ts))) s ∙ atom_times-step x ts at t c.loop-at.total lt e ∙ c.loop-at.invariant.rest;
@@ -40,16 +36,11 @@ loop-at-init c =
       rest = ap (add_up (atom_products x form.terms)) p;
     }
 
-pub sum-requires : goal.sum-requires
-sum-requires c =
-    let x = c.args.atom.now in
+pub plus_atom-requires : goal.plus_atom-requires
+plus_atom-requires c =
     let ts = c.args.form.now.terms in
     let at = c.loop-at.at in
     let t = c.get-item.result.now in
     let lt : at < length ts = omega (arith, c.loop-at-test.true, c.len-at-end.ensures, ap length c.terms.ensures) in
     let e : t ≡ get_or ts at t = c.get-item.ensures ∙ ap (λ us. get_or us at t) c.terms-in-loop-at.ensures in
-    let wide : SFits w128 c.coefficient.result = search rules in
-    let z = to_z-of_z w128 c.coefficient.result wide ∙ c.coefficient.ensures in
-    let p : c.in_ok-product.product ≡ scaled t.coefficient (of_atom (atom_product x t.atom)) =
-    c.in_ok-product.ensures {u = tt} ∙ (λ k. scaled (z k) (of_atom ((c.in_ok-atoms.ensures {u = tt} ∙ ap (atom_product x) c.atom.ensures) k))) in
-    omega (arith, ap norm p, scaled-norm t.coefficient (of_atom (atom_product x t.atom)), norm-step ts at t lt e, c.loop-at.invariant.room, c.requires)
+    omega (arith, norm-step ts at t lt e, c.loop-at.invariant.room, c.requires)

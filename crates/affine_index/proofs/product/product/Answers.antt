@@ -20,11 +20,7 @@ loop-at-preserved c =
     let t = c.get-item.result.now in
     let lt : at < length ts = omega (arith, c.loop-at-test.true, c.len-at-end.ensures, ap length c.terms.ensures) in
     let e : t ≡ get_or ts at t = c.get-item.ensures ∙ ap (λ us. get_or us at t) c.terms-in-loop-at.ensures in
-    let wide : SFits w128 c.coefficient.result = search rules in
-    let z = to_z-of_z w128 c.coefficient.result wide ∙ c.coefficient.ensures in
-    let times : c.in_ok-times.times ≡ atom_times t.atom b = c.in_ok-times.ensures {u = tt} ∙ ap (λ x. atom_times x b) c.atom.ensures in
-    let p : c.in_ok-product.product ≡ scaled t.coefficient (atom_times t.atom b) = c.in_ok-product.ensures {u = tt} ∙ (λ k. scaled (z k) (times k)) in
-    let s : c.in_ok-total-2.total ≡ sum_of c.loop-at.total (scaled t.coefficient (atom_times t.atom b)) = c.in_ok-total-2.ensures {u = tt} ∙ ap (sum_of c.loop-at.total) p in
+    let s : c.in_ok-total-2.total ≡ sum_of c.loop-at.total (scaled t.coefficient (atom_times t.atom b)) = c.in_ok-total-2.ensures {u = tt} in
     record {
       room = omega (arith, ap norm s, sum-norm c.loop-at.total (scaled t.coefficient (atom_times t.atom b)), scaled-norm t.coefficient (atom_times t.atom b), most (unsigned_abs t.coefficient) (norm (atom_times t.atom b)) (norm b) (atom_times-norm t.atom b), ap (λ n. n * norm b) (norm-step ts at t lt e), c.loop-at.invariant.room);
       rest = ap (add_up (term_products (drop (at + 1) ts) b)) s ∙ product-step ts b at t c.loop-at.total lt e ∙ c.loop-at.invariant.rest;
@@ -42,33 +38,15 @@ loop-at-init c =
       rest = ap (add_up (term_products a.terms b)) p;
     }
 
-pub sum-requires : goal.sum-requires
-sum-requires c =
+pub plus_item-requires : goal.plus_item-requires
+plus_item-requires c =
     let b = c.args.b.now in
     let ts = c.args.a.now.terms in
     let at = c.loop-at.at in
     let t = c.get-item.result.now in
     let lt : at < length ts = omega (arith, c.loop-at-test.true, c.len-at-end.ensures, ap length c.terms.ensures) in
     let e : t ≡ get_or ts at t = c.get-item.ensures ∙ ap (λ us. get_or us at t) c.terms-in-loop-at.ensures in
-    let wide : SFits w128 c.coefficient.result = search rules in
-    let z = to_z-of_z w128 c.coefficient.result wide ∙ c.coefficient.ensures in
-    let times : c.in_ok-times.times ≡ atom_times t.atom b = c.in_ok-times.ensures {u = tt} ∙ ap (λ x. atom_times x b) c.atom.ensures in
-    let p : c.in_ok-product.product ≡ scaled t.coefficient (atom_times t.atom b) = c.in_ok-product.ensures {u = tt} ∙ (λ k. scaled (z k) (times k)) in
-    omega (arith, ap norm p, scaled-norm t.coefficient (atom_times t.atom b), most (unsigned_abs t.coefficient) (norm (atom_times t.atom b)) (norm b) (atom_times-norm t.atom b), ap (λ n. n * norm b) (norm-step ts at t lt e), c.loop-at.invariant.room, c.requires.room)
-
-pub scaled-requires-in-loop-at : goal.scaled-requires-in-loop-at
-scaled-requires-in-loop-at c =
-    let b = c.args.b.now in
-    let ts = c.args.a.now.terms in
-    let at = c.loop-at.at in
-    let t = c.get-item.result.now in
-    let lt : at < length ts = omega (arith, c.loop-at-test.true, c.len-at-end.ensures, ap length c.terms.ensures) in
-    let e : t ≡ get_or ts at t = c.get-item.ensures ∙ ap (λ us. get_or us at t) c.terms-in-loop-at.ensures in
-    let wide : SFits w128 c.coefficient.result = search rules in
-    let z = to_z-of_z w128 c.coefficient.result wide ∙ c.coefficient.ensures in
-    let times : c.in_ok-times.times ≡ atom_times t.atom b = c.in_ok-times.ensures {u = tt} ∙ ap (λ x. atom_times x b) c.atom.ensures in
-    let fits : ℤ → Type 0 = λ x. unsigned_abs x * norm c.in_ok-times.times < 2 ^ 127 in
-    subst fits (sym z) (omega (arith, ap (λ i. unsigned_abs t.coefficient * norm i) times, most (unsigned_abs t.coefficient) (norm (atom_times t.atom b)) (norm b) (atom_times-norm t.atom b), ap (λ n. n * norm b) (norm-step ts at t lt e), c.loop-at.invariant.room, c.requires.room))
+    record { room = omega (arith, ap (λ n. n * norm b) (norm-step ts at t lt e), c.loop-at.invariant.room, c.requires.room); second = c.requires.second }
 
 pub scaled-requires : goal.scaled-requires
 scaled-requires c =
