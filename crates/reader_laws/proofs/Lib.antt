@@ -6,3 +6,4 @@ pub mod Starts
 pub mod Whole
 pub mod Loops
 pub mod Longer
+pub mod Repeated

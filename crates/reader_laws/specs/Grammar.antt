@@ -8,7 +8,7 @@ use Rattle.reader_laws.specs.declared.fault.Fault.TheVariants.{NotAffine, Coeffi
 use Rattle.reader_laws.specs.declared.fault.ReadError.{ReadError}
 use Rattle.reader_laws.specs.declared.fault.ReadError.TheVariants.{Memory, Refused}
 use Rattle.reader_laws.specs.declared.fault.Fault.{Fault}
-use Rattle.reader_laws.specs.Chain.{Links}
+use Rattle.reader_laws.specs.Chain.{Links, signed}
 
 -- one after the other
 pub record Both {A B : Type 0} (first : List Word → A → Type 0) (then : A → List Word → B → Type 0) (ws : List Word) (y : B) : Type 0 where
@@ -38,6 +38,10 @@ pub record Link {A B O : Type 0} (links : Links A B O) (operands : ℕ → A →
 abbrev pub IsChain : {A B O : Type 0} → Links A B O → (ℕ → A → O → List Word → B → Type 0) → ℕ → A → List Word → A → Type 0
 IsChain links operands zero left ws x = (ws ≡ []) × (x ≡ left)
 IsChain links operands (suc n) left ws x = ((ws ≡ []) × (x ≡ left)) ⊎ Link links operands n (λ value. IsChain links operands n value) left ws x
+
+-- items, each after a word of this kind, so many at most, added to `left`
+abbrev pub IsRepeated : {A B : Type 0} → Kind → (A → B → A) → (A → List Word → B → Type 0) → ℕ → A → List Word → A → Type 0
+IsRepeated a add rule n left = IsChain (signed a add) (λ m x o. rule x) n left
 
 -- a word of this kind, whose text reads as x
 pub record IsWordOf {A : Type 0} (a : Kind) (reads : Text → Result A Fault) (ws : List Word) (x : A) : Type 0 where
