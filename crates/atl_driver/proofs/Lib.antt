@@ -3,4 +3,3 @@ pub mod Completes
 pub mod DecideLaws
 pub mod FirstContent
 pub mod ReadLemmas
-pub mod ToLowering

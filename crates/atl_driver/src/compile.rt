@@ -123,7 +123,7 @@ fn text_of(alloc: Global, module: &Module) -> Result<Vec<u8>, CompileRefusal>
     }
 }
 
-/// The C text of a source, or its first fault. Time is linear in the source and in the text.
+/// The C text of a source, or its first fault. Time is that of `read_module`, and linear in the text.
 #[tactic(none)]
 pub fn compile_bytes(alloc: Global, source: &[u8]) -> Result<Vec<u8>, CompileRefusal>
     requires { length source.now ≤ 2147483647 }

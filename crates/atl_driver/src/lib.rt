@@ -113,13 +113,99 @@ void atl(int64_t n0, const uint64_t *a0, uint64_t *b0) {
         Ok(())
     }
 
+    // The lines that all texts begin with.
+    const HEAD: &str = "#include <stdint.h>
+static int64_t top(int64_t x, int64_t y) { return x > y ? x : y; }
+static void fill(uint64_t *p, int64_t at, int64_t n) { for (int64_t i = 0; i < n; i = i + 1) p[at + i] = 0; }
+";
+
+    const MATRIX: &str =
+        "atl 1; size N in 0..8; size M in 0..8; example N = 1, M = 1; input A[N][M]; output B = gen i < N. gen j < M. A[i][j] + 5;";
+
+    const MATRIX_LINES: &str = "int64_t len_a0(int64_t n0, int64_t n1) { return n0 * n1; }
+int64_t len_b0(int64_t n0, int64_t n1) { return n0 * n1; }
+void atl(int64_t n0, int64_t n1, const uint64_t *a0, uint64_t *b0) {
+  fill(b0, INT64_C(0), n0 * n1);
+  for (int64_t i0 = INT64_C(0); i0 < n0; i0 = i0 + INT64_C(1)) {
+    for (int64_t i1 = INT64_C(0); i1 < n1; i1 = i1 + INT64_C(1)) {
+      b0[i1 + n1 * i0] = a0[i1 + n1 * i0] + UINT64_C(5);
+    }
+  }
+}
+";
+
+    // Two inputs, the second read with its indices the other way round.
+    const TURNED: &str =
+        "atl 1; size N in 0..8; size M in 0..8; example N = 1, M = 1; input A[N]; input C[M][N]; output B = gen i < N. gen j < M. A[i] * C[j][i];";
+
+    const TURNED_LINES: &str = "int64_t len_a0(int64_t n0, int64_t n1) { return n0; }
+int64_t len_a1(int64_t n0, int64_t n1) { return n0 * n1; }
+int64_t len_b0(int64_t n0, int64_t n1) { return n0 * n1; }
+void atl(int64_t n0, int64_t n1, const uint64_t *a0, const uint64_t *a1, uint64_t *b0) {
+  fill(b0, INT64_C(0), n0 * n1);
+  for (int64_t i0 = INT64_C(0); i0 < n0; i0 = i0 + INT64_C(1)) {
+    for (int64_t i1 = INT64_C(0); i1 < n1; i1 = i1 + INT64_C(1)) {
+      b0[i1 + n1 * i0] = a0[i0] * a1[i0 + n0 * i1];
+    }
+  }
+}
+";
+
+    // Three gens over one size, of which the last hides the first.
+    const CUBE: &str =
+        "atl 1; size N in 0..8; example N = 2; input A[N]; output B = gen i < N. gen j < N. gen i < N. A[i];";
+
+    const CUBE_LINES: &str = "int64_t len_a0(int64_t n0) { return n0; }
+int64_t len_b0(int64_t n0) { return n0 * n0 * n0; }
+void atl(int64_t n0, const uint64_t *a0, uint64_t *b0) {
+  fill(b0, INT64_C(0), n0 * n0 * n0);
+  for (int64_t i0 = INT64_C(0); i0 < n0; i0 = i0 + INT64_C(1)) {
+    for (int64_t i1 = INT64_C(0); i1 < n0; i1 = i1 + INT64_C(1)) {
+      for (int64_t i2 = INT64_C(0); i2 < n0; i2 = i2 + INT64_C(1)) {
+        b0[i2 + n0 * n0 * i0 + n0 * i1] = a0[i2];
+      }
+    }
+  }
+}
+";
+
+    const NUMBER: &str = "atl 1; output B = 5 * 2 + 1;";
+
+    const NUMBER_LINES: &str = "int64_t len_b0(void) { return INT64_C(1); }
+void atl(uint64_t *b0) {
+  fill(b0, INT64_C(0), INT64_C(1));
+  b0[INT64_C(0)] = UINT64_C(5) * UINT64_C(2) + UINT64_C(1);
+}
+";
+
+    #[test]
+    fn sources_of_the_small_form_have_their_texts(rt: HostRuntime) -> Result<(), Fail> {
+        let alloc = rt.alloc();
+        let table = [
+            (MATRIX, MATRIX_LINES),
+            (TURNED, TURNED_LINES),
+            (CUBE, CUBE_LINES),
+            (NUMBER, NUMBER_LINES),
+        ];
+        for (source, lines) in table {
+            let mut files = SureFiles::new(held(alloc, source.as_bytes())?);
+            let mut out = MemSink::new(alloc, 1024, Vec::new(alloc))?;
+            let mut err = MemSink::new(alloc, 64, Vec::new(alloc))?;
+            let status = call(alloc, &COMPILE, &mut files, &mut out, &mut err)?;
+            assert!(rt; matches!(status, Status::Done));
+            let text = std::str::from_utf8(out.written()).ok();
+            assert_eq!(rt; text.and_then(|text| text.strip_prefix(HEAD)), Some(lines));
+        }
+        Ok(())
+    }
+
     #[test]
     fn a_text_that_leaves_the_form_is_refused_at_its_place(rt: HostRuntime) -> Result<(), Fail> {
         let alloc = rt.alloc();
         let table = [
             ("", "F60 NotBuilt at 0\n"),
             ("atl 2;", "F60 NotBuilt at 4\n"),
-            ("atl 1; output B = 1 - 2;", "F60 NotBuilt at 7\n"),
+            ("atl 1; output B = 1 - 2;", "F60 NotBuilt at 20\n"),
             (
                 "atl 1; size N in 0..8; example N = 9;",
                 "F60 NotBuilt at 35\n",

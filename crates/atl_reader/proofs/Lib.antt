@@ -1,6 +1,5 @@
-pub mod Products
-pub mod Laws
+pub mod LimitLaws
 pub mod Bytes
+pub mod Laws
 pub mod WholeLaws
-pub mod FormLaws
 pub mod SmallLaws

@@ -3,4 +3,3 @@ pub mod Names
 pub mod Lines
 pub mod Terms
 pub mod Source
-pub mod Form

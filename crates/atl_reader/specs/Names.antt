@@ -20,17 +20,19 @@ is_reserved [] = false
 is_reserved (c ∷ []) = false
 is_reserved (c ∷ d ∷ z) = (c == 105 || c == 116) && list_all is_ascii_digit (d ∷ z)
 
-abbrev pub unless_found : Fault → Text → Option ℕ → Result Text Fault
-unless_found fault t None = Ok t
-unless_found fault t (Some n) = Err fault
+-- this answer, where the name is not among those
+abbrev pub unless_found : Fault → Option ℕ → Result Text Fault → Result Text Fault
+unless_found fault None answer = answer
+unless_found fault (Some n) answer = Err fault
 
--- a name that is declared here: it is not reserved, and none of those that are declared before
-abbrev pub new_name : List Text → Text → Result Text Fault
-new_name names t = if is_reserved t then Err ReservedName else unless_found NameTwice t (place_from 0 t names)
+-- a name that is declared here: it is not reserved, and none of those of the sizes and of the inputs
+abbrev pub new_name : List Text → List Text → Text → Result Text Fault
+new_name sizes inputs t = if is_reserved t then Err ReservedName else unless_found NameTwice (place_from 0 t sizes) (unless_found NameTwice (place_from 0 t inputs) (Ok t))
 
--- a local name, which hides no declared name so far
-abbrev pub local_name : List Text → Text → Result Text Fault
-local_name names t = unless_found NotBuilt t (place_from 0 t names)
+-- a local name, which hides none of those, nor that of the output
+abbrev pub local_name : List Text → List Text → Text → Text → Result Text Fault
+local_name sizes inputs output t =
+    unless_found NotBuilt (place_from 0 t sizes) (unless_found NotBuilt (place_from 0 t inputs) (if bytes_eq t output then Err NotBuilt else Ok t))
 
 abbrev pub if_found : Option ℕ → Result ℕ Fault
 if_found None = Err UnknownName

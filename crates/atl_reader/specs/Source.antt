@@ -1,11 +1,12 @@
 -- Source texts: how they are read, and their grammar.
-use Rattle.std.specs.Prelude.{◌≡◌, ◌⊎◌, ℕ, ◌≢◌, if◌then◌else◌, false, List, [], ◌∷◌, take, Result, Ok, Err}
+use Rattle.std.specs.Prelude.{◌≡◌, ◌⊎◌, ℕ, ◌≢◌, if◌then◌else◌, false, List, [], ◌∷◌, map, take, Result, Ok, Err}
 use Rattle.std.specs.Str.{IsUtf8, is_utf8}
 use Rattle.std.specs.Str.Lossy.{utf8_valid_len}
 use Rattle.text_tokens.specs.declared.kind.Kind.TheVariants as k
 use Rattle.text_tokens.specs.declared.kind.Language.TheVariants.{SourceOne}
 use Rattle.text_tokens.specs.Kinds.{Text}
 use Rattle.text_tokens.specs.Words.{Word, words_of}
+use Rattle.affine_index.specs.Form.{size_form}
 use Rattle.term_tree.specs.declared.term.SizeDecl.{SizeDecl}
 use Rattle.term_tree.specs.declared.term.InputDecl.{InputDecl}
 use Rattle.term_tree.specs.declared.term.OutputDecl.{OutputDecl}
@@ -18,13 +19,18 @@ use Rattle.reader_laws.specs.Grammar.{IsWordOf, IsNothing, Both, IsRefusedAt}
 use Rattle.atl_reader.specs.declared.fault.ReadFault.{ReadFault}
 use Rattle.atl_reader.specs.declared.fault.ReadFault.TheVariants.{NotBuilt, Memory}
 use Rattle.atl_reader.specs.Names.{version_one}
-use Rattle.atl_reader.specs.Lines.{size_line, example_line, input_line, IsSizeLine, IsExampleLine, IsInputLine}
+use Rattle.atl_reader.specs.declared.lines.InputLine.{InputLine}
+use Rattle.atl_reader.specs.Lines.{sizes, AreSizes, example, IsExample, inputs, AreInputs}
 use Rattle.atl_reader.specs.Terms.{output_line, IsOutputLine}
 
+-- an input with its extents as forms
+abbrev pub input_decl : InputLine → InputDecl
+input_decl d = record { name = d.name; extents = map size_form d.sizes }
+
 -- what was declared
-abbrev pub module_of : SizeDecl → ℕ → InputDecl → OutputDecl → Module
-module_of size example input output =
-    record { version = 1; sizes = size ∷ []; assumes = []; example = example ∷ []; inputs = input ∷ []; outputs = output ∷ [] }
+abbrev pub module_of : List SizeDecl → List ℕ → List InputLine → OutputDecl → Module
+module_of sizes example inputs output =
+    record { version = 1; sizes = sizes; assumes = []; example = example; inputs = map input_decl inputs; outputs = output ∷ [] }
 
 -- `atl 1 ;`
 unfoldable pub header : Parser (Unit {0})
@@ -33,18 +39,14 @@ header = a_word k.Atl no_value >>= λ _. (a_word k.Number version_one >>= λ _. 
 abbrev pub IsHeader : List Word → Unit {0} → Type 0
 IsHeader = Both (IsWordOf k.Atl no_value) (λ _. Both (IsWordOf k.Number version_one) (λ _. IsWordOf k.Semi no_value))
 
--- the declarations, each after its keyword
+-- the declarations
 unfoldable pub declarations : Parser Module
 declarations =
-    a_word k.Size no_value >>= λ _. (size_line [] >>= λ size. (a_word k.Example no_value >>= λ _. (example_line size >>= λ example.
-    (a_word k.Input no_value >>= λ _. (input_line (size.name ∷ []) (size.name ∷ []) >>= λ input.
-    (a_word k.Output no_value >>= λ _. (output_line (input.name ∷ size.name ∷ []) (size.name ∷ []) (input.name ∷ []) >>= λ output. pure (module_of size example input output))))))))
+    sizes >>= λ ds. (example ds >>= λ ns. (inputs ds >>= λ is. (a_word k.Output no_value >>= λ _. (output_line ds is >>= λ output. pure (module_of ds ns is output)))))
 
 abbrev pub AreDeclarations : List Word → Module → Type 0
 AreDeclarations =
-    Both (IsWordOf k.Size no_value) (λ _. Both (IsSizeLine []) (λ size. Both (IsWordOf k.Example no_value) (λ _. Both (IsExampleLine size) (λ example.
-    Both (IsWordOf k.Input no_value) (λ _. Both (IsInputLine (size.name ∷ []) (size.name ∷ [])) (λ input.
-    Both (IsWordOf k.Output no_value) (λ _. Both (IsOutputLine (input.name ∷ size.name ∷ []) (size.name ∷ []) (input.name ∷ [])) (λ output. IsNothing (module_of size example input output)))))))))
+    Both AreSizes (λ ds. Both (IsExample ds) (λ ns. Both (AreInputs ds) (λ is. Both (IsWordOf k.Output no_value) (λ _. Both (IsOutputLine ds is) (λ output. IsNothing (module_of ds ns is output))))))
 
 unfoldable pub source : Parser Module
 source = header >>= λ _. declarations

@@ -5,6 +5,7 @@ mod fault;
 mod limits;
 mod lines;
 mod names;
+mod scope;
 mod source;
 mod terms;
 

@@ -5,10 +5,14 @@ ghost use Rattle.std.specs.Char.{is_ascii_digit};
 ghost use Rattle.std.specs.List.{list_all};
 ghost use Rattle.text_tokens.specs.declared.kind.Kind.TheVariants as k;
 ghost use Rattle.reader_laws.specs.Steps.{Reads, a_word};
+ghost use Rattle.atl_reader.specs.Lines.{size_names, input_names};
 ghost use Rattle.atl_reader.specs.Names as spec;
 
 use crate::limits::LARGEST_BOUND;
-use reader_laws::{Fault, ReadError, misplaced, place_of, refuse};
+use crate::lines::InputLine;
+use crate::scope::{input_place, size_place};
+use reader_laws::{Fault, ReadError, misplaced, refuse};
+use term_tree::SizeDecl;
 use text_tokens::{Kind, Tokens, number, same_kind};
 
 /// The version of a source, whose one spelling is `1`.
@@ -47,10 +51,14 @@ fn is_reserved(name: &str) -> bool
     }
 }
 
-/// A name that is declared here, where these are declared before.
+/// A name that is declared here, where these sizes and inputs are declared before.
 #[tactic(auto, unfolding(reader_laws::specs::Steps::a_word))]
-pub(crate) fn new_name<'a>(tokens: &mut Tokens<'a>, names: &[&str]) -> Result<&'a str, ReadError>
-    ensures { Reads (λ x. x.now) (a_word k.Name (spec.new_name (map (λ n. n.now) names.now)) tokens.old) result tokens.new }
+pub(crate) fn new_name<'a>(
+    tokens: &mut Tokens<'a>,
+    sizes: &[SizeDecl],
+    inputs: &[InputLine],
+) -> Result<&'a str, ReadError>
+    ensures { Reads (λ x. x.now) (a_word k.Name (spec.new_name (size_names sizes.now) (input_names inputs.now)) tokens.old) result tokens.new }
 {
     if !same_kind(tokens.peek(), Kind::Name) {
         return Err(misplaced(tokens));
@@ -58,36 +66,50 @@ pub(crate) fn new_name<'a>(tokens: &mut Tokens<'a>, names: &[&str]) -> Result<&'
     if is_reserved(tokens.text()) {
         return Err(refuse(Fault::ReservedName, tokens));
     }
-    if place_of(names, tokens.text()).is_some() {
+    if size_place(sizes, tokens.text()).is_some() {
+        return Err(refuse(Fault::NameTwice, tokens));
+    }
+    if input_place(inputs, tokens.text()).is_some() {
         return Err(refuse(Fault::NameTwice, tokens));
     }
     Ok(tokens.take())
 }
 
-/// A name that is bound here, where these are declared before.
+/// A name that is bound in this output, where these sizes and inputs are declared before.
 #[tactic(auto, unfolding(reader_laws::specs::Steps::a_word))]
-pub(crate) fn local_name<'a>(tokens: &mut Tokens<'a>, names: &[&str]) -> Result<&'a str, ReadError>
-    ensures { Reads (λ x. x.now) (a_word k.Name (spec.local_name (map (λ n. n.now) names.now)) tokens.old) result tokens.new }
+pub(crate) fn local_name<'a>(
+    tokens: &mut Tokens<'a>,
+    sizes: &[SizeDecl],
+    inputs: &[InputLine],
+    output: &str,
+) -> Result<&'a str, ReadError>
+    ensures { Reads (λ x. x.now) (a_word k.Name (spec.local_name (size_names sizes.now) (input_names inputs.now) output.now) tokens.old) result tokens.new }
 {
     if !same_kind(tokens.peek(), Kind::Name) {
         return Err(misplaced(tokens));
     }
-    if place_of(names, tokens.text()).is_some() {
+    if size_place(sizes, tokens.text()).is_some() {
+        return Err(refuse(Fault::NotBuilt, tokens));
+    }
+    if input_place(inputs, tokens.text()).is_some() {
+        return Err(refuse(Fault::NotBuilt, tokens));
+    }
+    if tokens.text() == output {
         return Err(refuse(Fault::NotBuilt, tokens));
     }
     Ok(tokens.take())
 }
 
-/// The number of one of these names.
+/// The number of one of these sizes.
 #[tactic(auto, unfolding(reader_laws::specs::Steps::a_word))]
-pub(crate) fn known_name(tokens: &mut Tokens<'_>, names: &[&str]) -> Result<u32, ReadError>
-    requires { length names.now < 2 ^ 32 }
-    ensures { Reads (λ x. x) (a_word k.Name (spec.known_name (map (λ n. n.now) names.now)) tokens.old) result tokens.new }
+pub(crate) fn known_size(tokens: &mut Tokens<'_>, sizes: &[SizeDecl]) -> Result<u32, ReadError>
+    requires { length sizes.now < 2 ^ 32 }
+    ensures { Reads (λ x. x) (a_word k.Name (spec.known_name (size_names sizes.now)) tokens.old) result tokens.new }
 {
     if !same_kind(tokens.peek(), Kind::Name) {
         return Err(misplaced(tokens));
     }
-    let Some(number) = place_of(names, tokens.text()) else {
+    let Some(number) = size_place(sizes, tokens.text()) else {
         return Err(refuse(Fault::UnknownName, tokens));
     };
     tokens.take();

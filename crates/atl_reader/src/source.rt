@@ -1,22 +1,23 @@
 //! Whole sources.
 
-ghost use Rattle.std.specs.Prelude.{◌≡◌, ◌≤◌, ◌∷◌, [], true, length, take, Ok, IfOk, IfErr, MatchResult};
+ghost use Rattle.std.specs.Prelude.{◌≡◌, map, ◌≤◌, ◌∷◌, [], true, length, take, Ok, IfOk, IfErr, MatchResult};
 ghost use Rattle.std.specs.Str.{IsUtf8};
 ghost use Rattle.reader_laws.specs.declared.fault.ReadError.TheVariants.{Memory};
 ghost use Rattle.text_tokens.specs.declared.kind.Language.TheVariants as language;
+ghost use Rattle.affine_index.specs.Form.{size_form};
 ghost use Rattle.term_tree.specs.declared.term.Module.{Module as Value};
 ghost use Rattle.term_tree.specs.Modules.{module_scoped, IsWithin};
 ghost use Rattle.term_tree.specs.SmallForm.{IsSmall};
 ghost use Rattle.reader_laws.specs.Steps as steps;
 ghost use Rattle.reader_laws.specs.Steps.{Reads, Gives};
-ghost use Rattle.atl_reader.specs.Form.{IsFirstForm};
 ghost use Rattle.atl_reader.specs.Source as spec;
 ghost use Rattle.atl_reader.specs.Source.{SourceText, Answers, IsRefusedText};
 
 use crate::fault::ReadFault;
-use crate::lines::{example_line, input_line, size_line};
+use crate::lines::{InputLine, example, inputs, sizes};
 use crate::names::version;
-use crate::terms::output_line;
+use crate::terms::{output_line, size_form};
+use affine_index::Aff;
 use reader_laws::{ReadError, expect, finish};
 use sqlite_items::Items;
 use std::alloc::Global;
@@ -32,50 +33,57 @@ fn header(tokens: &mut Tokens<'_>) -> Result<(), ReadError>
     expect(tokens, Kind::Semi)
 }
 
-fn one_size(alloc: Global, item: SizeDecl) -> Result<Items<SizeDecl>, ReadError>
-    ensures { MatchResult result (λ items. items ≡ item ∷ []) (λ e. e ≡ Memory) }
+/// The sizes of these numbers, as forms.
+fn extents_of(alloc: Global, mut sizes: &[u32]) -> Result<Items<Aff>, ReadError>
+    ensures { MatchResult result (λ forms. forms ≡ map size_form sizes.entry.now) (λ e. e ≡ Memory) }
 {
-    let mut items = Items::new(alloc);
-    items.push(item)?;
-    Ok(items)
+    let mut found = Items::new(alloc);
+    while let [first, rest @ ..] = sizes {
+        let form = size_form(alloc, *first)?;
+        found.push(form)?;
+        sizes = rest;
+    }
+    Ok(found)
 }
 
-fn one_number(alloc: Global, item: u64) -> Result<Items<u64>, ReadError>
-    ensures { MatchResult result (λ items. items ≡ item ∷ []) (λ e. e ≡ Memory) }
+fn input_decl(alloc: Global, line: &InputLine) -> Result<InputDecl, ReadError>
+    ensures { MatchResult result (λ d. d ≡ spec.input_decl line.now) (λ e. e ≡ Memory) }
 {
-    let mut items = Items::new(alloc);
-    items.push(item)?;
-    Ok(items)
+    let extents = extents_of(alloc, line.sizes.as_slice())?;
+    let name = line.name.copy(alloc)?;
+    Ok(InputDecl { name, extents })
 }
 
-fn one_input(alloc: Global, item: InputDecl) -> Result<Items<InputDecl>, ReadError>
-    ensures { MatchResult result (λ items. items ≡ item ∷ []) (λ e. e ≡ Memory) }
+fn input_decls(alloc: Global, mut lines: &[InputLine]) -> Result<Items<InputDecl>, ReadError>
+    ensures { MatchResult result (λ ds. ds ≡ map spec.input_decl lines.entry.now) (λ e. e ≡ Memory) }
 {
-    let mut items = Items::new(alloc);
-    items.push(item)?;
-    Ok(items)
+    let mut found = Items::new(alloc);
+    while let [first, rest @ ..] = lines {
+        let decl = input_decl(alloc, first)?;
+        found.push(decl)?;
+        lines = rest;
+    }
+    Ok(found)
 }
 
-fn one_output(alloc: Global, item: OutputDecl) -> Result<Items<OutputDecl>, ReadError>
-    ensures { MatchResult result (λ items. items ≡ item ∷ []) (λ e. e ≡ Memory) }
+fn one_output(alloc: Global, output: OutputDecl) -> Result<Items<OutputDecl>, ReadError>
+    ensures { MatchResult result (λ outputs. outputs ≡ output ∷ []) (λ e. e ≡ Memory) }
 {
-    let mut items = Items::new(alloc);
-    items.push(item)?;
-    Ok(items)
+    let mut outputs = Items::new(alloc);
+    outputs.push(output)?;
+    Ok(outputs)
 }
 
 fn module_of(
     alloc: Global,
-    size: SizeDecl,
-    example: u64,
-    input: InputDecl,
+    sizes: Items<SizeDecl>,
+    example: Items<u64>,
+    lines: &[InputLine],
     output: OutputDecl,
 ) -> Result<Module, ReadError>
-    ensures { MatchResult result (λ m. m ≡ spec.module_of size example input output) (λ e. e ≡ Memory) }
+    ensures { MatchResult result (λ m. m ≡ spec.module_of sizes example lines.now output) (λ e. e ≡ Memory) }
 {
-    let sizes = one_size(alloc, size)?;
-    let example = one_number(alloc, example)?;
-    let inputs = one_input(alloc, input)?;
+    let inputs = input_decls(alloc, lines)?;
     let outputs = one_output(alloc, output)?;
     Ok(Module {
         version: 1,
@@ -87,20 +95,17 @@ fn module_of(
     })
 }
 
-/// The declarations, each after its keyword.
+/// The declarations, in the order of the grammar.
 #[tactic(auto, unfolding(crate::specs::Source::declarations))]
 fn declarations(alloc: Global, tokens: &mut Tokens<'_>) -> Result<Module, ReadError>
     ensures { Reads (λ x. x) (spec.declarations tokens.old) result tokens.new }
 {
-    expect(tokens, Kind::Size)?;
-    let size = size_line(alloc, tokens, &[])?;
-    expect(tokens, Kind::Example)?;
-    let example = example_line(tokens, &size)?;
-    expect(tokens, Kind::Input)?;
-    let input = input_line(alloc, tokens, &[size.name.as_str()], &[size.name.as_str()])?;
+    let declared = sizes(alloc, tokens)?;
+    let numbers = example(alloc, tokens, declared.as_slice())?;
+    let lines = inputs(alloc, tokens, declared.as_slice())?;
     expect(tokens, Kind::Output)?;
-    let output = output_line(alloc, tokens, input.name.as_str(), size.name.as_str())?;
-    module_of(alloc, size, example, input, output)
+    let output = output_line(alloc, tokens, declared.as_slice(), lines.as_slice())?;
+    module_of(alloc, declared, numbers, lines.as_slice(), output)
 }
 
 #[tactic(auto, unfolding(crate::specs::Source::source, reader_laws::specs::Steps::read_whole))]
@@ -150,7 +155,8 @@ fn read_bytes(alloc: Global, text: &[u8]) -> Result<Module, ReadFault>
     }
 }
 
-/// The module of a source text. Time is linear in the text.
+/// The module of a source text. Each name is looked for among the declared names one by one; else time is linear in
+/// the text.
 pub fn read_module(alloc: Global, text: &[u8]) -> Result<Module, ReadFault>
     requires { length text.now ≤ 2147483647 }
     // What is read is the module of the text.
@@ -162,10 +168,12 @@ pub fn read_module(alloc: Global, text: &[u8]) -> Result<Module, ReadFault>
     // Which answer it is.
     ensures exact { Answers result (spec.read_source text.now) }
     // What is read is of the form that is lowered so far.
-    ensures form { IfOk result (λ m. IsFirstForm m) }
     ensures small { IfOk result (λ m. IsSmall m) }
     ensures scoped { IfOk result (λ m. module_scoped m ≡ true) }
     ensures example { IfOk result (λ m. IsWithin m.sizes m.example) }
+    // Sizes and inputs have numbers of 32 bits.
+    ensures sizes { IfOk result (λ m. length m.sizes ≤ 2147483647) }
+    ensures inputs { IfOk result (λ m. length m.inputs ≤ 2147483647) }
 {
     read_bytes(alloc, text)
 }

@@ -1,6 +1,5 @@
 use Rattle.std.proofs.Common.{Global}
 use Rattle.atl_driver.proofs.CompileLaws.{answers_read, compiled_read, no_fault_read, answers_unread, refused_unread}
-use Rattle.atl_driver.proofs.ToLowering.{few_sizes, few_inputs}
 use Rattle.atl_driver.proofs.compile.compile_bytes.Goals as goal
 
 pub read_module-requires : goal.read_module-requires
@@ -10,10 +9,10 @@ pub text_of-requires-clause-small : goal.text_of-requires-clause-small
 text_of-requires-clause-small c = c.in-Ok.ensures.small
 
 pub text_of-requires-clause-sizes : goal.text_of-requires-clause-sizes
-text_of-requires-clause-sizes c = few_sizes c.in-Ok.module c.in-Ok.ensures.form
+text_of-requires-clause-sizes c = c.in-Ok.ensures.sizes
 
 pub text_of-requires-clause-inputs : goal.text_of-requires-clause-inputs
-text_of-requires-clause-inputs c = few_inputs c.in-Ok.module c.in-Ok.ensures.form
+text_of-requires-clause-inputs c = c.in-Ok.ensures.inputs
 
 pub returns-in-Ok-clause-answers : goal.returns-in-Ok-clause-answers
 returns-in-Ok-clause-answers c = answers_read c.args.source.now c.in-Ok.module c.text_of.result c.in-Ok.ensures.exact c.text_of.ensures

@@ -1,9 +1,7 @@
-use Rattle.std.proofs.Common.{◌≡◌, true}
+use Rattle.std.proofs.Common.{◌≡◌, ◌≤◌, true, length}
 use Rattle.term_tree.specs.Modules.{module_scoped, IsWithin}
 use Rattle.term_tree.specs.SmallForm.{IsSmall}
-use Rattle.atl_reader.specs.Form.{IsFirstForm}
 use Rattle.atl_reader.proofs.WholeLaws.{found, only, refused, of_read}
-use Rattle.atl_reader.proofs.FormLaws.{first_form}
 use Rattle.atl_reader.proofs.SmallLaws as laws
 use Rattle.atl_reader.proofs.source.read_module.Goals as goal
 
@@ -19,14 +17,17 @@ returns-clause-refused c = refused c.args.text.now c.read_bytes.result c.read_by
 pub returns-clause-exact : goal.returns-clause-exact
 returns-clause-exact c = c.read_bytes.ensures
 
-pub returns-clause-form : goal.returns-clause-form
-returns-clause-form c = of_read (λ m. IsFirstForm m) c.args.text.now c.read_bytes.result c.read_bytes.ensures (λ ws m is. first_form ws m is)
-
 pub returns-clause-small : goal.returns-clause-small
-returns-clause-small c = of_read IsSmall c.args.text.now c.read_bytes.result c.read_bytes.ensures (λ ws m is. laws.small m (first_form ws m is))
+returns-clause-small c = of_read IsSmall c.args.text.now c.read_bytes.result c.read_bytes.ensures laws.small
 
 pub returns-clause-scoped : goal.returns-clause-scoped
-returns-clause-scoped c = of_read (λ m. module_scoped m ≡ true) c.args.text.now c.read_bytes.result c.read_bytes.ensures (λ ws m is. laws.scoped m (first_form ws m is))
+returns-clause-scoped c = of_read (λ m. module_scoped m ≡ true) c.args.text.now c.read_bytes.result c.read_bytes.ensures laws.scoped
 
 pub returns-clause-example : goal.returns-clause-example
-returns-clause-example c = of_read (λ m. IsWithin m.sizes m.example) c.args.text.now c.read_bytes.result c.read_bytes.ensures (λ ws m is. laws.within m (first_form ws m is))
+returns-clause-example c = of_read (λ m. IsWithin m.sizes m.example) c.args.text.now c.read_bytes.result c.read_bytes.ensures laws.within
+
+pub returns-clause-sizes : goal.returns-clause-sizes
+returns-clause-sizes c = of_read (λ m. length m.sizes ≤ 2147483647) c.args.text.now c.read_bytes.result c.read_bytes.ensures laws.few_sizes
+
+pub returns-clause-inputs : goal.returns-clause-inputs
+returns-clause-inputs c = of_read (λ m. length m.inputs ≤ 2147483647) c.args.text.now c.read_bytes.result c.read_bytes.ensures laws.few_inputs
