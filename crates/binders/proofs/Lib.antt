@@ -1,0 +1,19 @@
+pub mod Agreement
+pub mod AnswerLaws
+pub mod BoundLaws
+pub mod CauseLaws
+pub mod CondLaws
+pub mod Environments
+pub mod HasLaws
+pub mod MapFold
+pub mod NormalLaws
+pub mod PlaceFold
+pub mod PlainLaws
+pub mod ReachLaws
+pub mod RefusalLaws
+pub mod Rows
+pub mod Substitution
+pub mod Sums
+pub mod UsesFold
+pub mod UsesLaws
+mod WorkedRows

@@ -1,0 +1,5 @@
+pub mod Answers
+pub mod Bound
+pub mod Maps
+pub mod PlainMaps
+pub mod Uses
