@@ -21,3 +21,6 @@ pub use putting_index::PutIndex;
 pub use putting_tensor::PutTensor;
 pub use refusal::MapRefusal;
 pub use var_map::VarMap;
+
+#[cfg(test)]
+mod tests;

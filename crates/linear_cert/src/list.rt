@@ -1,0 +1,70 @@
+//! The numbered facts of a goal.
+#![tactic(auto, using(crate::proofs::ListLaws::list_laws))]
+
+ghost use Rattle.std.specs.Prelude.{◌≡◌, ◌≤◌, ◌++◌, length, take, IfOk, OnOk, IsTrue};
+ghost use Rattle.affine_index.specs.Condition.{cmp_form};
+ghost use Rattle.linear_cert.specs.Facts.{facts_of, meet_form, moves_fit};
+
+use crate::declared::declared_facts;
+use crate::facts::Facts;
+use crate::given::form_of;
+use crate::refusal::CertRefusal;
+use crate::role::{Fact, Met};
+use crate::walk::meet_form;
+use affine_index::{Aff, Atom};
+use sqlite_items::Items;
+use std::alloc::Global;
+
+/// The most facts of a list.
+const MOST: usize = 2000;
+
+/// The first facts of a list, at most so many.
+fn shortened(list: Items<Fact>, count: usize) -> Items<Fact>
+    ensures { result ≡ take count list }
+{
+    let mut list = list;
+    while list.len() > count {
+        let _ = list.pop();
+    }
+    list
+}
+
+/// The atoms of a fact, of which some were met before.
+fn meet_fact(
+    alloc: Global,
+    atoms: Items<Atom>,
+    facts: &Facts,
+    fact: &Fact,
+) -> Result<Met, CertRefusal>
+    ensures { IfOk result (λ met. met ≡ meet_form facts.now atoms (cmp_form fact.now.cmp)) }
+{
+    meet_form(alloc, atoms, facts, form_of(&fact.cmp))
+}
+
+/// The facts of a goal, of which the first has number 1: what the atoms of each fact add stands at the end.
+pub fn facts_of(alloc: Global, facts: &Facts, goal: &Aff) -> Result<Items<Fact>, CertRefusal>
+    requires sizes { length facts.now.sizes ≤ 2147483647 }
+    requires path { length facts.now.path ≤ 2147483647 }
+    requires fit { IsTrue (moves_fit facts.now.path) }
+    ensures is { IfOk result (λ list. list ≡ facts_of facts.now goal.now) }
+    ensures few { IfOk result (λ list. length list ≤ 2000) }
+{
+    let Met {
+        mut atoms,
+        facts: first,
+    } = meet_form(alloc, Items::new(alloc), facts, goal)?;
+    let mut list = declared_facts(alloc, facts)?;
+    list.append(first)?;
+    let mut i = 0;
+    while i < list.len() && list.len() < MOST {
+        let met = meet_fact(alloc, atoms, facts, &list.as_slice()[i])?;
+        let Met {
+            atoms: more,
+            facts: added,
+        } = met;
+        atoms = more;
+        list.append(added)?;
+        i += 1;
+    }
+    Ok(shortened(list, MOST))
+}

@@ -1,0 +1,16 @@
+use Rattle.std.proofs.Common.{rules}
+use Rattle.term_tree.specs.Shape.{with_child}
+use Rattle.shape_rules.specs.Faults.{IsTrouble}
+use Rattle.shape_rules.specs.Rules.{more_shape}
+use Rattle.affine_index.specs.Sum.{sum_of}
+use Rattle.shape_rules.proofs.AnswerLaws.{ruled}
+use Rattle.shape_rules.proofs.rules.more.Goals as goal
+
+pub returns-in_err-rest-clause-shape : goal.returns-in_err-rest-clause-shape
+returns-in_err-rest-clause-shape c shape h =
+    let f : IsTrouble (with_child 0 shape (more_shape c.args.amount.now)) c.in_err-rest.field-0.0 = c.in_err-rest.ensures.err shape (more_shape c.args.amount.now) h in search rules
+
+pub returns-in-Some-clause-shape : goal.returns-in-Some-clause-shape
+returns-in-Some-clause-shape c shape h =
+    ruled shape (more_shape c.args.amount.now) c.args.child c.in_ok-rest.rest _ c.with_first.result (c.in_ok-rest.ensures {u = tt}).ok c.in-Some.ensures h
+    (c.with_first.ensures (sum_of c.in-Some.n c.args.amount.now) c.add.ensures.form)

@@ -1,0 +1,10 @@
+pub mod Admitted
+pub mod Faults
+pub mod Fits
+pub mod Meant
+pub mod Parts
+pub mod Plain
+pub mod Rules
+pub mod Scopes
+pub mod Values
+pub mod Walked
