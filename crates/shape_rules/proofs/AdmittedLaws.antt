@@ -1,5 +1,5 @@
 -- A module whose goals are shown by default lines is sound.
-use Rattle.std.proofs.Common.{◌≡◌, ℕ, suc, ◌+◌, ◌≤◌, List, [], ◌∷◌, ◌++◌, length, map, append_assoc, refl, ap, subst, sym, ◌∙◌, arith, Bool, true, ◌&&◌}
+use Rattle.std.proofs.Common.{◌≡◌, ℕ, suc, ◌≤◌, List, [], ◌∷◌, ◌++◌, length, map, append_assoc, refl, ap, subst, sym, arith, true}
 use Rattle.std.specs.Prelude.{ℤ, pos, negsuc, ◌≤ℤ◌, slice_index}
 use Rattle.std.proofs.Math.Seq.{get_or-append_seam}
 use Rattle.std.proofs.lemmas.Bool.{and_parts}
@@ -7,14 +7,13 @@ use Rattle.std.proofs.lemmas.Int.{ints}
 use Rattle.affine_index.specs.Condition.{at_least_zero}
 use Rattle.affine_index.specs.Normal.{is_normal}
 use Rattle.affine_index.specs.Value.{items_value}
-use Rattle.affine_index.specs.declared.form.Items.{Items}
 use Rattle.linear_cert.specs.Truth.{FactsHold, SizesWithin}
 use Rattle.linear_cert.specs.declared.facts.SizeBounds.{SizeBounds}
 use Rattle.linear_cert.specs.declared.lines.Lines.TheVariants.{Default}
 use Rattle.linear_cert.proofs.ShownTrue.{shown-at-place}
 use Rattle.term_tree.specs.declared.term.Module.{Module}
 use Rattle.term_tree.specs.declared.term.SizeDecl.{SizeDecl}
-use Rattle.term_tree.specs.Modules.{Allowed, IsSound, IsWithin}
+use Rattle.term_tree.specs.Modules.{Allowed, IsWithin}
 use Rattle.term_tree.specs.Shape.{Extents}
 use Rattle.shape_rules.specs.Admitted.{AllShown, SoundByLines, each_normal, module_facts}
 use Rattle.shape_rules.specs.Meant.{SoundByGoals}

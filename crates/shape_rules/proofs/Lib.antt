@@ -16,3 +16,4 @@ pub mod TileLaws
 pub mod ShapeMeaning
 pub mod WalkedForms
 pub mod WalkedLaws
+mod TestLaws

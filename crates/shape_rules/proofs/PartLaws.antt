@@ -1,5 +1,5 @@
 -- Each part of a term with a shape has one, which is that of the meaning.
-use Rattle.std.proofs.Common.{◌≡◌, ℕ, ◌+◌, List, [], ◌∷◌, ◌++◌, refl, subst, sym, Bool, true, ◌&&◌, nat_lt, nat_le, Ok, Err}
+use Rattle.std.proofs.Common.{◌≡◌, ℕ, ◌+◌, List, ◌∷◌, refl, subst, sym, true, ◌&&◌, nat_lt, nat_le, Ok, Err}
 use Rattle.std.proofs.lemmas.Bool.{and_parts}
 use Rattle.affine_index.specs.Limited.{items_scoped}
 use Rattle.term_tree.specs.declared.term.Term.{Term, Lit, TVar, WordOf}

@@ -1,5 +1,5 @@
 -- Shapes are those of the meaning.
-use Rattle.std.specs.Prelude.{◌≡◌, ℕ, List, [], ◌∷◌, map, Ok, All}
+use Rattle.std.specs.Prelude.{◌≡◌, ℕ, List, [], map, Ok, All}
 use Rattle.term_tree.specs.declared.term.Module.{Module}
 use Rattle.term_tree.specs.declared.term.Term.{Term}
 use Rattle.term_tree.specs.Goals.{term_goals}

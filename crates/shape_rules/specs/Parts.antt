@@ -1,5 +1,5 @@
 -- A fact of a term and of each of its parts, each under the shapes of the tensor variables around it.
-use Rattle.std.specs.Prelude.{◌≡◌, ℕ, List, [], ◌∷◌, Ok}
+use Rattle.std.specs.Prelude.{List, ◌∷◌}
 use Rattle.term_tree.specs.declared.term.Term.{Term, Lit, TVar, WordOf}
 use Rattle.term_tree.specs.Syntax.{index, gen, sum, guard, let_in, add, sub, mul, concat, flatten, split, transpose, trunc_l, trunc_r, pad_l, pad_r}
 use Rattle.term_tree.specs.Goals.{extents_or_none}

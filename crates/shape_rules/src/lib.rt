@@ -7,6 +7,8 @@ mod modules;
 mod rules;
 mod shapes;
 mod terms;
+#[cfg(test)]
+mod tests;
 mod walk;
 
 pub use fault::ShapeFault;
