@@ -56,21 +56,23 @@ added-is q = ap (Let (Lit 1)) (Add-is (TVar 0) (TVar q)) ∙ Let-is (Lit 1) (add
 gathered_scoped : term_scoped 1 (gathered 1) 2 1 ≡ true
 gathered_scoped = simp (scoped-items, scoped-Size, scoped-Var, order-out, out-Var)
 
-one_form : (k : ℕ) → k < 1 → items_scoped 1 2 (given (var_form 1 ∷ []) k) ≡ true
-one_form zero h = simp (scoped-items, scoped-Var)
-one_form (suc k) h = absurd (omega (arith, h))
+one_form : (v k : ℕ) → v < 2 → k < 1 → items_scoped 1 2 (given (var_form v ∷ []) k) ≡ true
+one_form zero zero g h = simp (scoped-items, scoped-Var)
+one_form (suc zero) zero g h = simp (scoped-items, scoped-Var)
+one_form (suc (suc v)) zero g h = absurd (omega (arith, g))
+one_form v (suc k) g h = absurd (omega (arith, h))
 
 -- what a call of a map on such a term asks
 abbrev pub MayBeMapped : (Term → Type 0) → Term → Type 0
 MayBeMapped within e = (node_depth e ≤ 2147483647) × within e
 
-pub may_put_outer : (by : List Items) (e : Term) → by ≡ var_form 1 ∷ [] → e ≡ Gen (size_form 0) (Index (TVar 0) (sum_of (var_form 1) (var_form 0)))
+pub may_put_outer : (v : ℕ) (by : List Items) (e : Term) → v < 2 → by ≡ var_form v ∷ [] → e ≡ Gen (size_form 0) (Index (TVar 0) (sum_of (var_form 1) (var_form 0)))
     → MayBeMapped (IsWithinReach (put_index_reach by 2)) e
-may_put_outer by e b s =
-    let h : MayBeMapped (IsWithinReach (put_index_reach (var_form 1 ∷ []) 2)) (gathered 1) =
-    (omega arith, put_index_within (var_form 1 ∷ []) 2 2 1 2 1 (gathered 1) one_form (omega arith) (omega arith) gathered_scoped) in
+may_put_outer v by e l b s =
+    let h : MayBeMapped (IsWithinReach (put_index_reach (var_form v ∷ []) 2)) (gathered 1) =
+    (omega arith, put_index_within (var_form v ∷ []) 2 2 1 2 1 (gathered 1) (λ k. one_form v k l) (omega arith) (omega arith) gathered_scoped) in
     subst (λ y. MayBeMapped (IsWithinReach (put_index_reach y 2)) e) (sym b)
-    (subst (MayBeMapped (IsWithinReach (put_index_reach (var_form 1 ∷ []) 2))) (sym (s ∙ gathered-is 1)) h)
+    (subst (MayBeMapped (IsWithinReach (put_index_reach (var_form v ∷ []) 2))) (sym (s ∙ gathered-is 1)) h)
 
 pub may_put_five : (e : Term) → e ≡ Let (Lit 1) (Add (TVar 0) (TVar 1)) → MayBeMapped (IsWithinReach (put_tensor_reach (TVar 5) 0)) e
 unfolding may_shift
