@@ -1,13 +1,15 @@
-ghost use Rattle.std.specs.Prelude.{◌≡◌, ◌∷◌, [], ◌<◌, IfOk};
+ghost use Rattle.std.specs.Prelude.{◌≡◌, ◌∷◌, [], ◌<◌, ◌≤◌, IfOk};
 ghost use Rattle.affine_index.specs.Form.{size_form, var_form};
 ghost use Rattle.affine_index.specs.Sum.{sum_of};
+ghost use Rattle.term_tree.specs.Counts.{node_depth};
 
-use crate::{PutIndex, PutTensor, Shift, free_index, free_tensor, map_term};
+use crate::variables::variable;
+use crate::{MapRefusal, PutIndex, PutTensor, Shift, VarMap, free_index, free_tensor, map_term};
 use affine_index::Aff;
 use sqlite_items::{Boxed, Items};
 use std::alloc::Global;
 use std::test::Fail;
-use term_tree::{Term, depth, same};
+use term_tree::{Depths, Term, copy, depth, nodes, same};
 
 /// `gen j < size 0. let t = 1 in (input 0)[outer i]`, in which i is variable 1 and the input variable 1.
 fn example(alloc: Global) -> Result<Term, Fail> {
@@ -107,5 +109,67 @@ fn what_is_put_under_a_let_is_moved(rt: HostRuntime) -> Result<(), Fail> {
     let term = added(alloc, 1)?;
     assert!(rt; same(&put_five(alloc, &term)?, &added(alloc, 6)?));
     assert!(rt; same(&moved(alloc, &term)?, &added(alloc, 3)?));
+    Ok(())
+}
+
+/// Puts each variable for itself.
+struct Same;
+
+impl VarMap for Same {
+    ghost use Rattle.std.specs.Prelude.{true};
+    ghost use Rattle.affine_index.specs.Form.{var_form};
+    ghost use Rattle.term_tree.specs.declared.term.Term.{TVar};
+    ghost use Rattle.binders.specs.Answers.{no_refusals};
+
+    ghost meaning = { λ m. record { for_index = λ i j v. var_form v; for_tensor = λ i j q. TVar q } };
+
+    ghost refusals = { λ m. no_refusals };
+
+    ghost reach = { λ m. record { has_index = λ i j v. true; has_tensor = λ i j q. true } };
+
+    fn index(&self, alloc: Global, _depths: Depths, var: u32) -> Result<Aff, MapRefusal> {
+        variable(alloc, var)
+    }
+
+    fn tensor(&self, _alloc: Global, _depths: Depths, var: u32) -> Result<Term, MapRefusal> {
+        Ok(Term::TVar(var))
+    }
+}
+
+/// The sum of the term with itself, or its transpose.
+fn grown(alloc: Global, term: Term, step: u8) -> Result<Term, Fail> {
+    let first = Boxed::new(alloc, copy(alloc, &term)?)?;
+    if step == b'+' {
+        Ok(Term::Add(first, Boxed::new(alloc, term)?))
+    } else {
+        Ok(Term::Transpose(first))
+    }
+}
+
+fn mapped(alloc: Global, term: &Term) -> Result<Term, MapRefusal>
+    requires { node_depth term.now ≤ 100 }
+{
+    map_term(alloc, &Same, term)
+}
+
+#[test]
+fn a_node_over_20000_is_too_many(rt: HostRuntime) -> Result<(), Fail> {
+    let alloc = rt.alloc();
+    let mut term = Term::Lit(0);
+    for step in b"++t+t+t++++t+++++t" {
+        term = grown(alloc, term, *step)?;
+    }
+    assert!(rt; depth(&term) == 18);
+    assert!(rt; nodes(&term) == 20_000);
+    let within = mapped(alloc, &term)?;
+    assert!(rt; same(&within, &term));
+    let over = grown(alloc, term, b't')?;
+    assert!(rt; depth(&over) == 19);
+    assert!(rt;
+        matches!(
+            &mapped(alloc, &over),
+            Err(MapRefusal::TooManyNodes { nodes: 20_001 })
+        )
+    );
     Ok(())
 }
