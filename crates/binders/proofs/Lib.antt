@@ -12,6 +12,7 @@ pub mod PlainLaws
 pub mod ReachLaws
 pub mod RefusalLaws
 pub mod Rows
+pub mod ShiftLaws
 pub mod Substitution
 pub mod Sums
 pub mod UsesFold

@@ -190,6 +190,23 @@ left : {A : Type 0} (b : Bool) → b ≡ false → A ⊎ (b ≡ true) → A
 left b h (inl a) = a
 left b h (inr k) = absurd (cc)
 
+-- where a map never refuses and each mapped coefficient fits, want of memory is the one refusal on the way
+pub memory_left : (m : Replacement) (r : Refusals) (term : Term) (e : MapRefusal) → NeverRefuses r → coefficients_fit (mapped m 0 0 term) ≡ true
+    → (is_memory e || part_causes m r term 0 0 e) ≡ true → e ≡ Memory
+unfolding form_causes
+memory_left m r term CoefficientTooLarge n f h =
+    let no = left (refused r term CoefficientTooLarge) (never_refused r CoefficientTooLarge term n) (too_large m r term true f h) in absurd (cc)
+memory_left m r term IndexTooLong n f h =
+    let yes = own_refusal m r term IndexTooLong (λ i j x. or_false (form_refused r IndexTooLong i j x)) h in
+    let no = never_refused r IndexTooLong term n in absurd (cc)
+memory_left m r term NotAffine n f h =
+    let yes = own_refusal m r term NotAffine (λ i j x. or_false (form_refused r NotAffine i j x)) h in
+    let no = never_refused r NotAffine term n in absurd (cc)
+memory_left m r term (TooManyNodes k) n f h =
+    let yes = own_refusal m r term (TooManyNodes k) (λ i j x. or_false (form_refused r (TooManyNodes k) i j x)) h in
+    let no = never_refused r (TooManyNodes k) term n in absurd (cc)
+memory_left m r term Memory n f h = refl
+
 -- a map that never refuses leaves the limits alone
 pub limits_alone : (raw term : Term) (r : Refusals) (a : Result Term MapRefusal) → NeverRefuses r → IsMapped raw (refused r term) a → IsWithinLimits raw a
 limits_alone raw term r (Ok e) n h = h

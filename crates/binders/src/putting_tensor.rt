@@ -22,7 +22,7 @@ pub struct PutTensor {
     pub under: u32,
 }
 
-/// A term under so many more binders; memory alone can be wanting, since the coefficients and atoms of its forms stay as many.
+/// A term under so many more binders, refused for want of memory alone, since the coefficients and atoms of its forms stay as many.
 fn under_binders(alloc: Global, term: &Term, by: Depths) -> Result<Term, MapRefusal>
     requires { may_shift by.index by.tensor term.now ≡ true }
     ensures { IsAnswer (mapped (shift_map by.index by.tensor) 0 0 term.now) None result }
@@ -31,13 +31,15 @@ fn under_binders(alloc: Global, term: &Term, by: Depths) -> Result<Term, MapRefu
         index: by.index,
         tensor: by.tensor,
     };
+    told(term);
     let outside = Depths {
         index: 0,
         tensor: 0,
     };
     match part(alloc, &shift, outside, term) {
         Ok(Some(moved)) => Ok(moved),
-        _ => Err(MapRefusal::Memory),
+        Ok(None) => unreachable!(),
+        Err(refusal) => Err(refusal),
     }
 }
 
