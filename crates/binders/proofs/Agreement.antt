@@ -1,5 +1,6 @@
 -- Two folds over forms agree where they agree at the variables that occur.
 use Rattle.std.proofs.Common.{◌≡◌, ℕ, List, [], ◌∷◌, map, refl, ap, sym, ◌∙◌, Bool, true, false, ◌||◌, ◌==◌, eq-eqb}
+use Rattle.std.proofs.lemmas.Bool.{or_left, or_right}
 use Rattle.std.specs.Prelude.{ℤ, slice_index, pos}
 use Rattle.affine_index.specs.Normal.{any_true}
 use Rattle.affine_index.specs.Put.{put_all, put_items_step, put_step}
@@ -13,17 +14,6 @@ use Rattle.affine_index.specs.declared.form.Atom.TheFolds.{fold-Atom, fold-Items
 use Rattle.affine_index.proofs.Induction.{Each, EachTerm, for_items}
 use Rattle.binders.specs.Uses.{atom_has, terms_have, uses}
 use Rattle.binders.proofs.HasLaws.{has-Var, has-Div, has-Mul, has-items}
-
-pub or_left : (a b : Bool) → a ≡ true → (a || b) ≡ true
-or_left a b h = ap (λ z. z || b) h
-
-pub or_right : (a b : Bool) → b ≡ true → (a || b) ≡ true
-or_right true b h = refl
-or_right false b h = h
-
-pub or_none : (a b : Bool) → (a || b) ≡ false → (a ≡ false) × (b ≡ false)
-or_none true b h = absurd (cc)
-or_none false b h = (refl, h)
 
 module _ (A B : Type 0) (p q : Atom-F A B → A) (t : Items-F A B → B)
     (at_size : (s : ℕ) → p (Atom-F.Size s) ≡ q (Atom-F.Size s))

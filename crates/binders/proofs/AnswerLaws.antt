@@ -1,6 +1,6 @@
 -- What a map answers, and the causes of its refusals.
-use Rattle.std.proofs.Common.{◌≡◌, ℕ, ◌+◌, ◌<◌, ◌≤◌, ◌⊎◌, inl, inr, List, [], ◌∷◌, ◌++◌, length, map, refl, ap, sym, ◌∙◌, subst, arith, Bool, true, false, not, ◌||◌, ◌==◌, eqb-true, eq-eqb, Option, Some, None, Result, Ok, Err}
-use Rattle.std.proofs.lemmas.Bool.{cases_lt}
+use Rattle.std.proofs.Common.{◌≡◌, ℕ, ◌+◌, ◌<◌, ◌≤◌, ◌⊎◌, inl, inr, ⊎_elim, List, [], ◌∷◌, ◌++◌, length, map, refl, ap, sym, ◌∙◌, subst, arith, Bool, true, false, not, ◌||◌, ◌==◌, eqb-true, eq-eqb, Option, Some, None, Result, Ok, Err}
+use Rattle.std.proofs.lemmas.Bool.{cases_lt, or_cases, or_left, or_right}
 use Rattle.std.proofs.lemmas.List.{get_or_append_left, get_or_push}
 use Rattle.std.specs.Prelude.{pos}
 use Rattle.affine_index.specs.Form.{literal_form}
@@ -17,12 +17,7 @@ use Rattle.binders.specs.Maps.{Replacement, put_at, put_cmp}
 use Rattle.binders.specs.Uses.{atom_has, form_has, terms_have, uses}
 use Rattle.binders.specs.declared.refusal.MapRefusal.{MapRefusal}
 use Rattle.binders.specs.declared.refusal.MapRefusal.TheVariants.{CoefficientTooLarge, IndexTooLong, NotAffine, TooManyNodes, Memory}
-use Rattle.binders.proofs.Agreement.{or_left, or_right}
 use Rattle.binders.proofs.HasLaws.{has-Size, has-Var, has-Div, has-Mul, has-items}
-
-pub by_either : {P : Type 0} (a b : Bool) → (a || b) ≡ true → (a ≡ true → P) → (b ≡ true → P) → P
-by_either true b h k l = k refl
-by_either false b h k l = l h
 
 module _ (p : ℕ → Bool) (v : ℕ) (yes : p v ≡ true) where
   abbrev AtomHas : Atom → Type 0
@@ -33,11 +28,11 @@ module _ (p : ℕ → Bool) (v : ℕ) (yes : p v ≡ true) where
 
   factors_have : (fs : List Atom) → Each AtomHas fs → any_true (map (atom_has (λ w. w == v)) fs) ≡ true → any_true (map (atom_has p) fs) ≡ true
   factors_have [] h u = u
-  factors_have (f ∷ fs) h u = by_either (atom_has (λ w. w == v) f) _ u (λ o. or_left _ _ (h.0 o)) (λ o. or_right _ _ (factors_have fs h.1 o))
+  factors_have (f ∷ fs) h u = ⊎_elim (λ o. or_left _ _ (h.0 o)) (λ o. or_right _ _ (factors_have fs h.1 o)) (or_cases (atom_has (λ w. w == v) f) _ u)
 
   terms_too : (ts : List (Item Atom)) → EachTerm AtomHas ts → terms_have (λ w. w == v) ts ≡ true → terms_have p ts ≡ true
   terms_too [] h u = u
-  terms_too (t ∷ ts) h u = by_either (atom_has (λ w. w == v) t.atom) _ u (λ o. or_left _ _ (h.0 o)) (λ o. or_right _ _ (terms_too ts h.1 o))
+  terms_too (t ∷ ts) h u = ⊎_elim (λ o. or_left _ _ (h.0 o)) (λ o. or_right _ _ (terms_too ts h.1 o)) (or_cases (atom_has (λ w. w == v) t.atom) _ u)
 
   -- a variable that occurs and passes a test
   pub has-used : (i : Items) → FormHas i

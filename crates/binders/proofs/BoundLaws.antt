@@ -1,5 +1,6 @@
 -- Each variable of a form is below its bound.
-use Rattle.std.proofs.Common.{◌≡◌, ℕ, ◌+◌, ◌<◌, max, List, [], ◌∷◌, map, refl, ap, sym, ◌∙◌, arith, subst, Bool, true, false, ◌||◌, ◌==◌, eqb-true}
+use Rattle.std.proofs.Common.{◌≡◌, ℕ, ◌+◌, ◌<◌, max, ⊎_elim, List, [], ◌∷◌, map, refl, ap, sym, ◌∙◌, arith, subst, Bool, true, false, ◌||◌, ◌==◌, eqb-true}
+use Rattle.std.proofs.lemmas.Bool.{or_cases}
 use Rattle.affine_index.specs.Normal.{any_true}
 use Rattle.affine_index.specs.declared.form.Atom.{Atom}
 use Rattle.affine_index.specs.declared.form.Atom.TheVariants.{Size, Var, Div, Mul, rolls-Size, rolls-Var, rolls-Mul, rolls-Div}
@@ -40,19 +41,15 @@ module _ (v : ℕ) where
   abbrev FormBelow : Items → Type 0
   FormBelow i = uses v i ≡ true → v < form_bound i
 
-  by_either : {P : Type 0} (a b : Bool) → (a || b) ≡ true → (a ≡ true → P) → (b ≡ true → P) → P
-  by_either true b h k l = k refl
-  by_either false b h k l = l h
-
   factors_below : (fs : List Atom) → Each AtomBelow fs → any_true (map (atom_has (λ w. w == v)) fs) ≡ true → v < largest (map atom_bound fs)
   factors_below [] h u = absurd (cc)
   factors_below (f ∷ fs) h u =
-      by_either (atom_has (λ w. w == v) f) _ u (λ o. let l = h.0 o in omega (arith, l)) (λ o. let l = factors_below fs h.1 o in omega (arith, l))
+      ⊎_elim (λ o. let l = h.0 o in omega (arith, l)) (λ o. let l = factors_below fs h.1 o in omega (arith, l)) (or_cases (atom_has (λ w. w == v) f) _ u)
 
   terms_below : (ts : List (Item Atom)) → EachTerm AtomBelow ts → terms_have (λ w. w == v) ts ≡ true → v < terms_bound ts
   terms_below [] h u = absurd (cc)
   terms_below (t ∷ ts) h u =
-      by_either (atom_has (λ w. w == v) t.atom) _ u (λ o. let l = h.0 o in omega (arith, l)) (λ o. let l = terms_below ts h.1 o in omega (arith, l))
+      ⊎_elim (λ o. let l = h.0 o in omega (arith, l)) (λ o. let l = terms_below ts h.1 o in omega (arith, l)) (or_cases (atom_has (λ w. w == v) t.atom) _ u)
 
   at_var : (w : ℕ) → (w == v) ≡ true → v < atom_bound (Var w)
   at_var w e = let same = eqb-true w v e in omega (arith, same, bound-Var w)

@@ -1,6 +1,6 @@
 -- A well scoped term is within the reach of a map whose reach has the variables in scope.
 use Rattle.std.proofs.Common.{◌≡◌, ℕ, ◌+◌, ◌-◌, ◌^◌, ◌<◌, ◌≤◌, List, [], ◌∷◌, length, map, refl, ap, sym, ◌∙◌, arith, Bool, true, false, not, ◌||◌, ◌&&◌, nat_le, nat_lt, if◌then◌else◌}
-use Rattle.std.proofs.lemmas.Bool.{and_from, and_parts, le-leb, leb-true, lt-ltb, ltb-false, ltb-true, not-true}
+use Rattle.std.proofs.lemmas.Bool.{and_from, and_parts, le-leb, leb-true, lt-ltb, ltb-false, ltb-true, not-true, or_right}
 use Rattle.affine_index.specs.Condition.{all_scoped}
 use Rattle.affine_index.specs.Every.{atom_every, atoms_every, terms_every}
 use Rattle.affine_index.specs.Limited.{all_firsts, all_true, atom_scoped, items_scoped}
@@ -23,7 +23,6 @@ use Rattle.term_tree.specs.Syntax.{index, gen, sum, guard, let_in, add, sub, mul
 use Rattle.binders.specs.Answers.{IsWithinReach, Reach, form_beyond, is_beyond, some_place}
 use Rattle.binders.specs.PlainMaps.{may_shift, put_index_reach, put_tensor_reach, shift_reach}
 use Rattle.binders.specs.Uses.{any_cmp, atom_has, form_has, terms_have}
-use Rattle.binders.proofs.Agreement.{or_right}
 use Rattle.binders.proofs.RefusalLaws.{has-none, no_place}
 use Rattle.binders.proofs.HasLaws.{has-Size, has-Var, has-Div, has-Mul, has-items}
 

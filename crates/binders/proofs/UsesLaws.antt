@@ -1,5 +1,6 @@
 -- A term in which a variable does not occur means the same whatever the value of the variable.
 use Rattle.std.proofs.Common.{◌≡◌, ℕ, zero, suc, ◌+◌, ◌-◌, ◌*◌, ◌/◌, ◌%◌, ◌^◌, List, [], ◌∷◌, ◌++◌, length, drop, get_or, refl, ap, sym, ◌∙◌, arith, false, ◌&&◌, ◌==◌, if◌then◌else◌, eq-eqb}
+use Rattle.std.proofs.lemmas.Bool.{or_parts}
 use Rattle.std.specs.Prelude.{slice_index}
 use Rattle.affine_index.specs.Value.{items_value}
 use Rattle.affine_index.specs.Condition.{all_hold, cmp_at, cmp_form}
@@ -10,7 +11,7 @@ use Rattle.term_tree.specs.Syntax.{index, gen, sum, guard, let_in, add, sub, mul
 use Rattle.term_tree.specs.Meaning.{word_of, extent, head_of, tail_of, dims, den, row_at, chunks, columns, Bound, no_bound, extents_of}
 use Rattle.term_tree.specs.Tensors.{Word, rows_of, from_rows, by_places, copies, zeros, tabulate, total, joined, drop_last}
 use Rattle.binders.specs.Uses.{IgnoresIndex, IgnoresTensor, any_cmp, uses, uses_index, uses_tensor}
-use Rattle.binders.proofs.Agreement.{or_none, value-agrees_at}
+use Rattle.binders.proofs.Agreement.{value-agrees_at}
 
 pub get_or-extents_of : (t : List Bound) (q : ℕ) → get_or (extents_of t) q [] ≡ (get_or t q no_bound).0
 get_or-extents_of [] q = refl
@@ -37,7 +38,7 @@ value_ignores s r r' v h x free = value-agrees_at s r r' x (λ w u. h w (λ e. l
 all_ignore : (s r r' : List ℕ) (v : ℕ) → AgreeBut v r r' → (cs : List Cmp) → any_cmp (uses v) cs ≡ false → all_hold s r cs ≡ all_hold s r' cs
 all_ignore s r r' v h [] free = refl
 all_ignore s r r' v h (c ∷ cs) free =
-    let f = or_none (uses v (cmp_form c)) (any_cmp (uses v) cs) free in
+    let f = or_parts (uses v (cmp_form c)) (any_cmp (uses v) cs) free in
     λ i. cmp_at c (value_ignores s r r' v h (cmp_form c) f.0 i) && all_ignore s r r' v h cs f.1 i
 
 pub index_same : (e : Term) (v : ℕ) (s r r' : List ℕ) (t : List Bound) → AgreeBut v r r' → uses_index e v ≡ false → den e s r t ≡ den e s r' t
@@ -45,32 +46,32 @@ index_same (Lit w) v s r r' t h free = refl
 index_same (TVar q) v s r r' t h free = refl
 index_same (WordOf x) v s r r' t h free = λ i. Word (word_of (value_ignores s r r' v h x free i))
 index_same (index e x) v s r r' t h free =
-    let f = or_none (uses_index e v) (uses v x) free in
+    let f = or_parts (uses_index e v) (uses v x) free in
     λ i. row_at (rows_of (index_same e v s r r' t h f.0 i)) (value_ignores s r r' v h x f.1 i) (zeros (tail_of (dims e s (extents_of t))))
 index_same (gen n e) v s r r' t h free =
-    let f = or_none (uses v n) (uses_index e (v + 1)) free in
+    let f = or_parts (uses v n) (uses_index e (v + 1)) free in
     λ i. from_rows (tabulate (extent n s) (λ k. index_same e (v + 1) s (k ∷ r) (k ∷ r') t (agree_under v k r r' h) f.1 i))
 index_same (sum n e) v s r r' t h free =
-    let f = or_none (uses v n) (uses_index e (v + 1)) free in
+    let f = or_parts (uses v n) (uses_index e (v + 1)) free in
     λ i. total (zeros (dims e s (extents_of t))) (tabulate (extent n s) (λ k. index_same e (v + 1) s (k ∷ r) (k ∷ r') t (agree_under v k r r' h) f.1 i))
 index_same (guard c e) v s r r' t h free =
-    let f = or_none (any_cmp (uses v) c.all) (uses_index e v) free in
+    let f = or_parts (any_cmp (uses v) c.all) (uses_index e v) free in
     λ i. if all_ignore s r r' v h c.all f.0 i then index_same e v s r r' t h f.1 i else zeros (dims e s (extents_of t))
 index_same (let_in a b) v s r r' t h free =
-    let f = or_none (uses_index a v) (uses_index b v) free in
+    let f = or_parts (uses_index a v) (uses_index b v) free in
     (λ i. den b s r ((dims a s (extents_of t), index_same a v s r r' t h f.0 i) ∷ t))
     ∙ index_same b v s r r' ((dims a s (extents_of t), den a s r' t) ∷ t) h f.1
-index_same (add a b) v s r r' t h free = let f = or_none (uses_index a v) (uses_index b v) free in λ i. by_places (λ v w. (v + w) % 2 ^ 64) (index_same a v s r r' t h f.0 i) (index_same b v s r r' t h f.1 i)
-index_same (sub a b) v s r r' t h free = let f = or_none (uses_index a v) (uses_index b v) free in λ i. by_places (λ v w. (v + (2 ^ 64 - w)) % 2 ^ 64) (index_same a v s r r' t h f.0 i) (index_same b v s r r' t h f.1 i)
-index_same (mul a b) v s r r' t h free = let f = or_none (uses_index a v) (uses_index b v) free in λ i. by_places (λ v w. (v * w) % 2 ^ 64) (index_same a v s r r' t h f.0 i) (index_same b v s r r' t h f.1 i)
-index_same (concat a b) v s r r' t h free = let f = or_none (uses_index a v) (uses_index b v) free in λ i. from_rows (rows_of (index_same a v s r r' t h f.0 i) ++ rows_of (index_same b v s r r' t h f.1 i))
+index_same (add a b) v s r r' t h free = let f = or_parts (uses_index a v) (uses_index b v) free in λ i. by_places (λ v w. (v + w) % 2 ^ 64) (index_same a v s r r' t h f.0 i) (index_same b v s r r' t h f.1 i)
+index_same (sub a b) v s r r' t h free = let f = or_parts (uses_index a v) (uses_index b v) free in λ i. by_places (λ v w. (v + (2 ^ 64 - w)) % 2 ^ 64) (index_same a v s r r' t h f.0 i) (index_same b v s r r' t h f.1 i)
+index_same (mul a b) v s r r' t h free = let f = or_parts (uses_index a v) (uses_index b v) free in λ i. by_places (λ v w. (v * w) % 2 ^ 64) (index_same a v s r r' t h f.0 i) (index_same b v s r r' t h f.1 i)
+index_same (concat a b) v s r r' t h free = let f = or_parts (uses_index a v) (uses_index b v) free in λ i. from_rows (rows_of (index_same a v s r r' t h f.0 i) ++ rows_of (index_same b v s r r' t h f.1 i))
 index_same (flatten e) v s r r' t h free = λ i. from_rows (joined (rows_of (index_same e v s r r' t h free i)))
 index_same (split k e) v s r r' t h free = λ i. let d = dims e s (extents_of t) in from_rows (chunks ((head_of d + k - 1) / k) k (zeros (tail_of d)) (rows_of (index_same e v s r r' t h free i)))
 index_same (transpose e) v s r r' t h free = λ i. let d = dims e s (extents_of t) in from_rows (columns (head_of (tail_of d)) (zeros (tail_of (tail_of d))) (rows_of (index_same e v s r r' t h free i)))
-index_same (trunc_l n e) v s r r' t h free = let f = or_none (uses v n) (uses_index e v) free in λ i. from_rows (drop (extent n s) (rows_of (index_same e v s r r' t h f.1 i)))
-index_same (trunc_r n e) v s r r' t h free = let f = or_none (uses v n) (uses_index e v) free in λ i. from_rows (drop_last (extent n s) (rows_of (index_same e v s r r' t h f.1 i)))
-index_same (pad_l n e) v s r r' t h free = let f = or_none (uses v n) (uses_index e v) free in λ i. from_rows (copies (extent n s) (zeros (tail_of (dims e s (extents_of t)))) ++ rows_of (index_same e v s r r' t h f.1 i))
-index_same (pad_r n e) v s r r' t h free = let f = or_none (uses v n) (uses_index e v) free in λ i. from_rows (rows_of (index_same e v s r r' t h f.1 i) ++ copies (extent n s) (zeros (tail_of (dims e s (extents_of t)))))
+index_same (trunc_l n e) v s r r' t h free = let f = or_parts (uses v n) (uses_index e v) free in λ i. from_rows (drop (extent n s) (rows_of (index_same e v s r r' t h f.1 i)))
+index_same (trunc_r n e) v s r r' t h free = let f = or_parts (uses v n) (uses_index e v) free in λ i. from_rows (drop_last (extent n s) (rows_of (index_same e v s r r' t h f.1 i)))
+index_same (pad_l n e) v s r r' t h free = let f = or_parts (uses v n) (uses_index e v) free in λ i. from_rows (copies (extent n s) (zeros (tail_of (dims e s (extents_of t)))) ++ rows_of (index_same e v s r r' t h f.1 i))
+index_same (pad_r n e) v s r r' t h free = let f = or_parts (uses v n) (uses_index e v) free in λ i. from_rows (rows_of (index_same e v s r r' t h f.1 i) ++ copies (extent n s) (zeros (tail_of (dims e s (extents_of t)))))
 
 pub ignores_index : (e : Term) (v : ℕ) → uses_index e v ≡ false → IgnoresIndex e v
 ignores_index e v free s is r a b t n =
@@ -124,7 +125,7 @@ tensor_same (guard c e) v s r t t' h free = let g = tensor_same e v s r t t' h f
   meaning = λ i. if all_hold s r c.all then g.meaning i else zeros (g.extents i);
 }
 tensor_same (let_in a b) v s r t t' h free =
-    let f = or_none (uses_tensor a v) (uses_tensor b (v + 1)) free in
+    let f = or_parts (uses_tensor a v) (uses_tensor b (v + 1)) free in
     let g = tensor_same a v s r t t' h f.0 in
     let x : Bound = (dims a s (extents_of t'), den a s r t') in
     let k = tensor_same b (v + 1) s r (x ∷ t) (x ∷ t') (tensors_agree_under v x t t' h) f.1 in
@@ -132,10 +133,10 @@ tensor_same (let_in a b) v s r t t' h free =
       extents = (λ i. dims b s (g.extents i ∷ extents_of t)) ∙ k.extents;
       meaning = (λ i. den b s r ((g.extents i, g.meaning i) ∷ t)) ∙ k.meaning;
     }
-tensor_same (add a b) v s r t t' h free = let f = or_none (uses_tensor a v) (uses_tensor b v) free in let g = tensor_same a v s r t t' h f.0 in let k = tensor_same b v s r t t' h f.1 in record { extents = g.extents; meaning = λ i. by_places (λ v w. (v + w) % 2 ^ 64) (g.meaning i) (k.meaning i) }
-tensor_same (sub a b) v s r t t' h free = let f = or_none (uses_tensor a v) (uses_tensor b v) free in let g = tensor_same a v s r t t' h f.0 in let k = tensor_same b v s r t t' h f.1 in record { extents = g.extents; meaning = λ i. by_places (λ v w. (v + (2 ^ 64 - w)) % 2 ^ 64) (g.meaning i) (k.meaning i) }
-tensor_same (mul a b) v s r t t' h free = let f = or_none (uses_tensor a v) (uses_tensor b v) free in let g = tensor_same a v s r t t' h f.0 in let k = tensor_same b v s r t t' h f.1 in record { extents = refl; meaning = λ i. by_places (λ v w. (v * w) % 2 ^ 64) (g.meaning i) (k.meaning i) }
-tensor_same (concat a b) v s r t t' h free = let f = or_none (uses_tensor a v) (uses_tensor b v) free in let g = tensor_same a v s r t t' h f.0 in let k = tensor_same b v s r t t' h f.1 in record { extents = λ i. (head_of (g.extents i) + head_of (k.extents i)) ∷ tail_of (g.extents i); meaning = λ i. from_rows (rows_of (g.meaning i) ++ rows_of (k.meaning i)) }
+tensor_same (add a b) v s r t t' h free = let f = or_parts (uses_tensor a v) (uses_tensor b v) free in let g = tensor_same a v s r t t' h f.0 in let k = tensor_same b v s r t t' h f.1 in record { extents = g.extents; meaning = λ i. by_places (λ v w. (v + w) % 2 ^ 64) (g.meaning i) (k.meaning i) }
+tensor_same (sub a b) v s r t t' h free = let f = or_parts (uses_tensor a v) (uses_tensor b v) free in let g = tensor_same a v s r t t' h f.0 in let k = tensor_same b v s r t t' h f.1 in record { extents = g.extents; meaning = λ i. by_places (λ v w. (v + (2 ^ 64 - w)) % 2 ^ 64) (g.meaning i) (k.meaning i) }
+tensor_same (mul a b) v s r t t' h free = let f = or_parts (uses_tensor a v) (uses_tensor b v) free in let g = tensor_same a v s r t t' h f.0 in let k = tensor_same b v s r t t' h f.1 in record { extents = refl; meaning = λ i. by_places (λ v w. (v * w) % 2 ^ 64) (g.meaning i) (k.meaning i) }
+tensor_same (concat a b) v s r t t' h free = let f = or_parts (uses_tensor a v) (uses_tensor b v) free in let g = tensor_same a v s r t t' h f.0 in let k = tensor_same b v s r t t' h f.1 in record { extents = λ i. (head_of (g.extents i) + head_of (k.extents i)) ∷ tail_of (g.extents i); meaning = λ i. from_rows (rows_of (g.meaning i) ++ rows_of (k.meaning i)) }
 tensor_same (flatten e) v s r t t' h free = let g = tensor_same e v s r t t' h free in record {
   extents = ap (λ d. (head_of d * head_of (tail_of d)) ∷ tail_of (tail_of d)) g.extents;
   meaning = λ i. from_rows (joined (rows_of (g.meaning i)));

@@ -1,4 +1,5 @@
 use Rattle.std.proofs.Common.{◌≡◌, ◌+◌, ◌∷◌, ◌&&◌, map, drop, ap, sym, ◌∙◌, subst, Ok, Some, None}
+use Rattle.std.proofs.lemmas.Bool.{or_parts, or_right}
 use Rattle.std.proofs.lemmas.List.{drop_more}
 use Rattle.affine_index.specs.Condition.{cmp_form}
 use Rattle.affine_index.specs.Normal.{coefficients_fit, is_short}
@@ -6,7 +7,6 @@ use Rattle.term_tree.specs.Limits.{each_cmp}
 use Rattle.binders.specs.Answers.{IsCmp, form_beyond, form_causes}
 use Rattle.binders.specs.Maps.{put_cmp, put_cond_at}
 use Rattle.binders.specs.Uses.{any_cmp}
-use Rattle.binders.proofs.Agreement.{or_none, or_right}
 use Rattle.binders.proofs.CondLaws.{cond_of, done_all, done_fit, done_short, more_fit, more_mapped, more_short, too_long}
 use Rattle.binders.proofs.replacement.put_cond.Goals as goal
 use Rattle.binders.proofs.replacement.put_cond.Goals.{in-Some+in_ok-push-in-Some, in-None}
@@ -24,7 +24,7 @@ loop-cmp-preserved g c =
     let x = c.cmp-item.result in
     let inv = c.loop-cmp.invariant in
     let e : back ≡ x ∷ rest = drop_more items c.loop-cmp.cmp-index x c.loop-cmp-test.true ∙ ap (λ z. z ∷ rest) (sym c.cmp-item.is) in
-    let within = (or_none (form_beyond (g.M.VarMap.reach c.args.map.now) i j (cmp_form x)) _ (ap (any_cmp (form_beyond (g.M.VarMap.reach c.args.map.now) i j)) (sym e) ∙ inv.within)).1 in
+    let within = (or_parts (form_beyond (g.M.VarMap.reach c.args.map.now) i j (cmp_form x)) _ (ap (any_cmp (form_beyond (g.M.VarMap.reach c.args.map.now) i j)) (sym e) ∙ inv.within)).1 in
     elim c.match-branch-2.branch [
       | in-Some+in_ok-push-in-Some w ↦
           let h : IsCmp (f x) (λ k. form_causes m r k i j (cmp_form x)) (Ok (Some w.in-Some.cmp)) = subst (λ o. IsCmp (f x) (λ k. form_causes m r k i j (cmp_form x)) (Ok o)) w.in-Some.is c.in_ok-cmp.ensures in
