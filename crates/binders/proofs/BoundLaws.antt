@@ -1,5 +1,5 @@
 -- Each variable of a form is below its bound.
-use Rattle.std.proofs.Common.{◌≡◌, ℕ, ◌+◌, ◌<◌, max, ⊎_elim, List, [], ◌∷◌, map, refl, ap, sym, ◌∙◌, arith, subst, Bool, true, false, ◌||◌, ◌==◌, eqb-true}
+use Rattle.std.proofs.Common.{◌≡◌, ℕ, ◌+◌, ◌<◌, max, ⊎_elim, List, [], ◌∷◌, map, refl, ap, sym, ◌∙◌, arith, subst, true, ◌==◌, eqb-true}
 use Rattle.std.proofs.lemmas.Bool.{or_cases}
 use Rattle.affine_index.specs.Normal.{any_true}
 use Rattle.affine_index.specs.declared.form.Atom.{Atom}

@@ -12,6 +12,8 @@ pub mod PlainLaws
 pub mod ReachLaws
 pub mod RefusalLaws
 pub mod Rows
+pub mod ScopeLaws
+pub mod ScopedForms
 pub mod ShiftLaws
 pub mod Substitution
 pub mod Sums

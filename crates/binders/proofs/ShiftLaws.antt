@@ -1,5 +1,5 @@
 -- A term whose variables are moved up breaks no limit.
-use Rattle.std.proofs.Common.{◌≡◌, ℕ, suc, ◌+◌, List, [], ◌∷◌, map, refl, sym, ◌∙◌, Bool, true, false, ◌&&◌, cond, nat_lt}
+use Rattle.std.proofs.Common.{◌≡◌, ℕ, suc, ◌+◌, List, [], ◌∷◌, map, refl, sym, ◌∙◌, Bool, true, ◌&&◌, cond, nat_lt}
 use Rattle.std.proofs.lemmas.Bool.{and_from, and_parts, true_from_ne_false}
 use Rattle.affine_index.specs.Normal.{is_normal, is_short}
 use Rattle.affine_index.specs.Normal.{coefficients_fit as form_fits}

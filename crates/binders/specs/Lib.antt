@@ -2,4 +2,5 @@ pub mod Answers
 pub mod Bound
 pub mod Maps
 pub mod PlainMaps
+pub mod Scoped
 pub mod Uses

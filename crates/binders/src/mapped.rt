@@ -5,6 +5,7 @@ ghost use Rattle.term_tree.specs.Counts.{node_depth};
 ghost use Rattle.term_tree.specs.Limits.{coefficients_fit, forms_short};
 ghost use Rattle.binders.specs.Answers.{IsMapped, IsWithinLimits, IsWithinReach, NeverRefuses, refused};
 ghost use Rattle.binders.specs.Maps.{Keeps, mapped};
+ghost use Rattle.binders.specs.Scoped.{KeepsScope};
 
 use crate::mapping::part;
 use crate::refusal::MapRefusal;
@@ -55,6 +56,7 @@ pub fn map_term<M: VarMap>(alloc: Global, map: &M, term: &Term) -> Result<Term, 
     ensures term { IsMapped (mapped (M.meaning map.now) 0 0 term.now) (refused (M.refusals map.now) term.now) result }
     ensures limits { NeverRefuses (M.refusals map.now) → IsWithinLimits (mapped (M.meaning map.now) 0 0 term.now) result }
     ensures keeps { IfOk result (λ e. Keeps (M.meaning map.now) term.now e) }
+    ensures scope { IfOk result (λ e. KeepsScope (M.meaning map.now) term.now e) }
 {
     told(term);
     whole(alloc, map, term)

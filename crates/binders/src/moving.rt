@@ -1,6 +1,7 @@
 //! The map that moves free variables up.
 
 ghost use Rattle.binders.specs.PlainMaps.{SendsShift};
+ghost use Rattle.binders.specs.Scoped.{ScopesShift};
 
 use crate::refusal::MapRefusal;
 use crate::var_map::VarMap;
@@ -20,6 +21,11 @@ impl Shift {
     /// Under new binders in front each variable keeps its value.
     pub fn keeps_values(&self)
         ensures { SendsShift self.now.index self.now.tensor }
+    {}
+
+    /// A variable in scope stays in scope under new binders in front.
+    pub fn keeps_scope(&self)
+        ensures { ScopesShift self.now.index self.now.tensor }
     {}
 }
 

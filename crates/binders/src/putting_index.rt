@@ -5,6 +5,7 @@ ghost use Rattle.affine_index.specs.Normal.{is_normal};
 ghost use Rattle.affine_index.specs.Put.{given};
 ghost use Rattle.binders.specs.Answers.{IsAnswer};
 ghost use Rattle.binders.specs.PlainMaps.{SendsPutIndex, may_put, put_for};
+ghost use Rattle.binders.specs.Scoped.{ScopesPutIndex};
 
 use crate::refusal::MapRefusal;
 use crate::var_map::VarMap;
@@ -54,6 +55,11 @@ impl PutIndex {
     {
         all_told(self.by.as_slice());
     }
+
+    /// Where each form is in scope under the new binders, so is what stands for each variable.
+    pub fn keeps_scope(&self)
+        ensures { ScopesPutIndex self.now.by self.now.under }
+    {}
 }
 
 impl VarMap for PutIndex {

@@ -4,6 +4,7 @@ ghost use Rattle.std.specs.Prelude.{◌≡◌, None, true};
 ghost use Rattle.binders.specs.Answers.{IsAnswer};
 ghost use Rattle.binders.specs.Maps.{mapped};
 ghost use Rattle.binders.specs.PlainMaps.{SendsPutTensor, may_put_tensor, may_shift, put_tensor_for, shift_map};
+ghost use Rattle.binders.specs.Scoped.{ScopesPutTensor};
 
 use crate::mapping::part;
 use crate::moving::Shift;
@@ -64,6 +65,11 @@ impl PutTensor {
     {
         told(&self.by);
     }
+
+    /// Where the term is well scoped under the new lets, so is what stands for each variable.
+    pub fn keeps_scope(&self)
+        ensures { ScopesPutTensor self.now.by self.now.under }
+    {}
 }
 
 impl VarMap for PutTensor {
