@@ -3,6 +3,7 @@ pub mod AnswerLaws
 pub mod BoundLaws
 pub mod CauseLaws
 pub mod CondLaws
+pub mod CountingLaws
 pub mod Environments
 pub mod HasLaws
 pub mod MapFold

@@ -85,15 +85,6 @@ module _ (m : Replacement) (own : ℕ → ℕ → Items → Bool) (q : ℕ → �
   own_causes (pad_l n e) i j h = own_causes e i j (and_parts (form_fits n) (coefficients_fit (mapped m i j e)) (sym (fold-pad_l Bool (form_step form_fits) _ _) ∙ h)).1
   own_causes (pad_r n e) i j h = own_causes e i j (and_parts (form_fits n) (coefficients_fit (mapped m i j e)) (sym (fold-pad_r Bool (form_step form_fits) _ _) ∙ h)).1
 
--- what is within the limits, or breaks one, is a mapped term
-pub limits_mapped : (raw : Term) (own : MapRefusal → Bool) (a : Result Term MapRefusal) → IsWithinLimits raw a → IsMapped raw own a
-limits_mapped raw own (Ok e) h = h
-limits_mapped raw own (Err CoefficientTooLarge) h = inl h
-limits_mapped raw own (Err IndexTooLong) h = inl h
-limits_mapped raw own (Err NotAffine) h = absurd h
-limits_mapped raw own (Err (TooManyNodes n)) h = inl h
-limits_mapped raw own (Err Memory) h = h
-
 -- a refusal of the whole walk is a coefficient that is too large, or one of the map at a variable of the term
 module _ (m : Replacement) (r : Refusals) (term : Term) where
   abbrev whole : Term
@@ -122,11 +113,6 @@ module _ (m : Replacement) (r : Refusals) (term : Term) where
 
   pub some_part : (o : Option Term) (x : Term) → o ≡ Some x → IsPartOf (map_fold m term 0 0) (part_causes m r term 0 0) (Ok o) → x ≡ whole
   some_part o x s p = (subst (λ o. IsPartOf (map_fold m term 0 0) (part_causes m r term 0 0) (Ok o)) s p).0 ∙ map_fold-is m term 0 0
-
-  pub limits_of : (o : Option Term) (x : Term) (a : Result Term MapRefusal) → o ≡ Some x → IsPartOf (map_fold m term 0 0) (part_causes m r term 0 0) (Ok o)
-      → IsWithinLimits x a → IsMapped whole (refused r term) a
-  limits_of o x a s p h =
-      limits_mapped whole (refused r term) a (subst (λ e. IsWithinLimits e a) (some_part o x s p) h)
 
   pub too_long_of : (o : Option Term) → o ≡ None → IsPartOf (map_fold m term 0 0) (part_causes m r term 0 0) (Ok o) → IsMapped whole (refused r term) (Err IndexTooLong)
   too_long_of o s p =

@@ -1,5 +1,6 @@
 pub mod Answers
 pub mod Bound
+pub mod Counting
 pub mod Maps
 pub mod PlainMaps
 pub mod Scoped

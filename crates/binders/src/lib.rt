@@ -2,7 +2,9 @@
 #![tactic(auto)]
 
 mod bound;
+mod counting;
 mod free;
+mod hollow;
 mod mapped;
 mod mapping;
 mod moving;

@@ -44,7 +44,8 @@ fn tensor<M: VarMap>(
     }
 }
 
-fn under_index(depths: Depths) -> Depths
+/// Under one more gen or sum.
+pub fn under_index(depths: Depths) -> Depths
     requires { depths.index + 1 < 2 ^ 32 }
     ensures index { result.index ≡ depths.index + 1 }
     ensures tensor { result.tensor ≡ depths.tensor }
@@ -55,7 +56,8 @@ fn under_index(depths: Depths) -> Depths
     }
 }
 
-fn under_tensor(depths: Depths) -> Depths
+/// Under one more let.
+pub fn under_tensor(depths: Depths) -> Depths
     requires { depths.tensor + 1 < 2 ^ 32 }
     ensures index { result.index ≡ depths.index }
     ensures tensor { result.tensor ≡ depths.tensor + 1 }
