@@ -1,5 +1,5 @@
 -- What the code that adds the facts of quotients and products rests on.
-use Rattle.std.proofs.Common.{◌≡◌, ℕ, zero, suc, ◌+◌, ◌<◌, List, [], ◌∷◌, ◌++◌, length, drop, get_or, refl, ap, sym, ◌∙◌, subst, Bool, true, false, Option, Some, arith}
+use Rattle.std.proofs.Common.{◌≡◌, ℕ, zero, suc, ◌+◌, ◌<◌, List, [], ◌∷◌, ◌++◌, length, drop, get_or, refl, ap, sym, ◌∙◌, subst, Bool, true, false, Some, arith}
 use Rattle.std.specs.Prelude.{pos, if◌then◌else◌}
 use Rattle.affine_index.specs.Normal.{is_normal}
 use Rattle.affine_index.proofs.Induction.{Each}
@@ -8,7 +8,9 @@ use Rattle.affine_index.specs.declared.form.Atom.{Atom}
 use Rattle.affine_index.specs.declared.form.Atom.TheVariants.{Size, Var, Div, Mul}
 use Rattle.affine_index.specs.declared.form.Items.{Items}
 use Rattle.linear_cert.proofs.CodeLaws.{factors-normal, kept-ok, limits-Div, single-normal}
-use Rattle.linear_cert.specs.Facts.{NormalAtom, all_factor_facts, atom_facts, different, fact_if, factor_facts, layer_facts, limit_facts, limits_of, meet, product_of_others, same_atoms, single, stands_in, times_others, without}
+use Rattle.linear_cert.proofs.OrderedAtoms.{among-is}
+use Rattle.linear_cert.specs.Sorted.{stands_among}
+use Rattle.linear_cert.specs.Facts.{NormalAtom, all_factor_facts, atom_facts, different, fact_if, factor_facts, layer_facts, limit_facts, limits_of, meet, same_atoms, single, stands_in, without}
 use Rattle.linear_cert.specs.declared.facts.Facts.{Facts}
 use Rattle.linear_cert.specs.declared.role.Met.{Met}
 use Rattle.linear_cert.specs.declared.role.Role.TheVariants.{ProductOf}
@@ -35,22 +37,6 @@ without-each P a (f ∷ fs) h = by (same_atoms a f) h (without-each P a fs h.1)
     by : (b : Bool) → P f × Each P fs → Each P (without a fs) → Each P (if b then fs else f ∷ without a fs)
     by true h rest = h.1
     by false h rest = (h.0, rest)
-
-pub without-normal : (a : Atom) (fs : List Atom) → Each NormalAtom fs → Each NormalAtom (without a fs)
-without-normal = without-each NormalAtom
-
--- one factor more, from the last on
-others_step : (fs : List Atom) (i : ℕ) (x : Atom) → i < length fs → x ≡ get_or fs i x → times_others x (product_of_others (drop (suc i) fs)) ≡ product_of_others (drop i fs)
-others_step [] i x h e = absurd (omega arith)
-others_step (f ∷ fs) zero x h e = ap (λ a. times_others a (product_of_others fs)) e
-others_step (f ∷ fs) (suc i) x h e = others_step fs i x (omega arith) e
-
-pub others-step : (fs : List Atom) (i j : ℕ) (x : Atom) (o p : Option Items) → j ≡ i + 1 → i < length fs → x ≡ get_or fs i x → o ≡ product_of_others (drop j fs) → p ≡ times_others x o → p ≡ product_of_others (drop i fs)
-others-step fs i j x o p q h e f g =
-    g ∙ ap (times_others x) (f ∙ ap (λ n. product_of_others (drop n fs)) (q ∙ turn i)) ∙ others_step fs i x h e
-  where
-    turn : (i : ℕ) → i + 1 ≡ suc i
-    turn i = omega arith
 
 -- one factor more of those that differ
 different_step : (f : Facts) (gs fs : List Atom) (i : ℕ) (x : Atom) (b : Bool) → i < length fs → x ≡ get_or fs i x → stands_in x (drop (suc i) fs) ≡ b
@@ -96,18 +82,18 @@ facts-Mul f fs n =
     ap (layer_facts f) (out-Mul fs)
     ∙ ap (λ o. fact_if (ProductOf (Mul fs)) o ++ all_factor_facts f fs (different fs)) (sym (kept-ok (single (pos 1) (Mul fs) (pos 0)) (single (pos 1) (Mul fs) (pos 0)) refl (once-normal (Mul fs) n)))
 
-pub meet-known : (f : Facts) (m : Met) (a : Atom) → stands_in a m.atoms ≡ true → m ≡ meet f m a
-meet-known f m a e = by (stands_in a m.atoms) e
+pub meet-known : (f : Facts) (m : Met) (a : Atom) → stands_among a m.atoms ≡ true → m ≡ meet f m a
+meet-known f m a e = by (stands_in a m.atoms) (sym (among-is a m.atoms) ∙ e)
   where
     by : (b : Bool) → b ≡ true → m ≡ (if b then m else record { atoms = m.atoms ++ a ∷ []; facts = m.facts ++ atom_facts f a })
     by true e = refl
     by false e = absurd (cc)
 
-pub meet-new : (f : Facts) (m : Met) (a : Atom) → stands_in a m.atoms ≡ false → meet f m a ≡ record { atoms = m.atoms ++ a ∷ []; facts = m.facts ++ atom_facts f a }
-meet-new f m a e = by (stands_in a m.atoms) e
+pub meet-new : (f : Facts) (m : Met) (a : Atom) → stands_among a m.atoms ≡ false → meet f m a ≡ record { atoms = m.atoms ++ a ∷ []; facts = m.facts ++ atom_facts f a }
+meet-new f m a e = by (stands_in a m.atoms) (sym (among-is a m.atoms) ∙ e)
   where
     by : (b : Bool) → b ≡ false → (if b then m else record { atoms = m.atoms ++ a ∷ []; facts = m.facts ++ atom_facts f a }) ≡ record { atoms = m.atoms ++ a ∷ []; facts = m.facts ++ atom_facts f a }
     by true e = absurd (cc)
     by false e = refl
 
-pub ruleset add_laws = (once-normal, without-normal, facts-Size, facts-Var, facts-Div, facts-Mul, factors-normal, meet-known, meet-new)
+pub ruleset add_laws = (once-normal, facts-Size, facts-Var, facts-Div, facts-Mul, factors-normal, meet-known, meet-new)

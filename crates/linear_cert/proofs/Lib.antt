@@ -12,6 +12,8 @@ pub mod LeastLaws
 pub mod LineLaws
 pub mod LinesTrue
 pub mod ListLaws
+pub mod OrderedAtoms
+pub mod OthersLaws
 pub mod PartsOrdered
 pub mod PlaceTrue
 pub mod ProcedureLaws

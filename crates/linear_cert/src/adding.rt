@@ -2,31 +2,20 @@
 #![tactic(auto, using(crate::proofs::AddLaws::add_laws))]
 
 ghost use Rattle.std.specs.Prelude.{◌≡◌, ◌++◌, IfOk, OnOk, Some};
-ghost use Rattle.affine_index.proofs.Induction.{Each};
 ghost use Rattle.affine_index.specs.declared.form.Atom.TheVariants.{Mul};
-ghost use Rattle.linear_cert.specs.Facts.{NormalAtom, all_factor_facts, atom_facts, different, fact_if, factor_facts, limit_facts, limit_products, limit_products_if, meet, product_of_others, same_atoms, stands_in, times_others, without};
+ghost use Rattle.linear_cert.specs.Facts.{NormalAtom, all_factor_facts, atom_facts, different, fact_if, factor_facts, limit_facts, limit_products, meet, product_of_others, without};
+ghost use Rattle.linear_cert.specs.Joined.{joined};
 
-use crate::atoms::{copy_atom, literal, same_atoms};
+use crate::atoms::{copy_atom, same_atoms};
 use crate::facts::Facts;
 use crate::forms::{copied, product, single};
 use crate::limits::{Limit, limits_of};
+use crate::order::begins;
 use crate::refusal::CertRefusal;
 use crate::role::{Fact, Met, Role};
 use affine_index::{Aff, Atom, Cmp};
 use sqlite_items::Items;
 use std::alloc::Global;
-
-/// Whether an atom stands in a list.
-pub fn stands_in(atom: &Atom, atoms: &[Atom]) -> bool
-    ensures { result ≡ stands_in atom.now atoms.now }
-{
-    for other in atoms {
-        if same_atoms(atom, other) {
-            return true;
-        }
-    }
-    false
-}
 
 /// A fact, if there is a form.
 pub fn push_fact(facts: &mut Items<Fact>, role: Role, form: Option<Aff>) -> Result<(), CertRefusal>
@@ -95,32 +84,27 @@ fn without(alloc: Global, factor: &Atom, factors: &[Atom]) -> Result<Items<Atom>
     Ok(others)
 }
 
-fn times_others(
-    alloc: Global,
-    factor: &Atom,
-    others: Option<Aff>,
-) -> Result<Option<Aff>, CertRefusal>
-    requires { NormalAtom factor.now }
-    ensures { IfOk result (λ form. form ≡ times_others factor.now others) }
+/// A factor alone, or the product of several.
+fn joined(factors: Items<Atom>) -> Atom
+    ensures { result ≡ joined factors }
 {
-    let Some(others) = others else {
-        return Ok(None);
-    };
-    let form = single(alloc, 1, copy_atom(alloc, factor)?, 0)?;
-    product(alloc, &form, &others)
+    let mut factors = factors;
+    if factors.len() != 1 {
+        return Atom::Mul(factors);
+    }
+    match factors.pop() {
+        Some(factor) => factor,
+        None => Atom::Mul(factors),
+    }
 }
 
-/// The product of some factors, if it is one of normal forms within the limits.
-fn product_of_others(alloc: Global, factors: &[Atom]) -> Result<Option<Aff>, CertRefusal>
-    requires { Each NormalAtom factors.now }
-    ensures { IfOk result (λ form. form ≡ product_of_others factors.now) }
+/// The product of the factors of a product without the first that equals one. Linear in the factors: the product of all but one is an atom of a normal form.
+fn product_without(alloc: Global, factor: &Atom, factors: &[Atom]) -> Result<Aff, CertRefusal>
+    requires { NormalAtom (Mul factors.now) }
+    ensures { IfOk result (λ form. Some form ≡ product_of_others (without factor.now factors.now)) }
 {
-    let mut form = Some(literal(alloc, 1)?);
-    let mut i = factors.len();
-    while i > 0 {
-        i -= 1;
-        form = times_others(alloc, &factors[i], form)?;
-    }
+    let others = without(alloc, factor, factors)?;
+    let form = single(alloc, 1, joined(others), 0)?;
     Ok(form)
 }
 
@@ -134,16 +118,13 @@ fn factor_facts(
     factor: &Atom,
 ) -> Result<(), CertRefusal>
     requires whole { whole.now ≡ Mul factors.now }
-    requires normal { Each NormalAtom factors.now }
+    requires normal { NormalAtom (Mul factors.now) }
     requires factor { NormalAtom factor.now }
     ensures { OnOk result (list.new ≡ list.old ++ factor_facts facts.now factors.now factor.now) }
 {
-    let others = without(alloc, factor, factors)?;
-    let Some(form) = product_of_others(alloc, others.as_slice())? else {
-        return Ok(());
-    };
+    let others = product_without(alloc, factor, factors)?;
     let limits = limits_of(alloc, facts, factor)?;
-    limit_products(alloc, list, whole, factor, &form, limits.as_slice())
+    limit_products(alloc, list, whole, factor, &others, limits.as_slice())
 }
 
 fn all_factor_facts(
@@ -154,11 +135,11 @@ fn all_factor_facts(
     whole: &Atom,
 ) -> Result<(), CertRefusal>
     requires whole { whole.now ≡ Mul factors.now }
-    requires normal { Each NormalAtom factors.now }
+    requires normal { NormalAtom (Mul factors.now) }
     ensures { OnOk result (list.new ≡ list.old ++ all_factor_facts facts.now factors.now (different factors.now)) }
 {
     for i in 0..factors.len() {
-        if stands_in(&factors[i], &factors[i + 1..]) {
+        if begins(&factors[i], &factors[i + 1..]) {
             continue;
         }
         factor_facts(alloc, list, facts, factors, whole, &factors[i])?;
@@ -196,14 +177,14 @@ pub fn meet(alloc: Global, met: Met, facts: &Facts, atom: &Atom) -> Result<Met, 
     requires { NormalAtom atom.now }
     ensures { IfOk result (λ more. more ≡ meet facts.now met atom.now) }
 {
-    if stands_in(atom, met.atoms.as_slice()) {
+    if met.atoms.contains(atom) {
         return Ok(met);
     }
     let Met {
-        mut atoms,
+        atoms,
         facts: mut list,
     } = met;
-    atoms.push(copy_atom(alloc, atom)?)?;
+    let atoms = atoms.with(alloc, atom)?;
     atom_facts(alloc, &mut list, facts, atom)?;
     Ok(Met { atoms, facts: list })
 }

@@ -15,6 +15,8 @@ mod least;
 mod limits;
 pub mod lines;
 mod list;
+mod met;
+mod order;
 mod procedure;
 pub mod refusal;
 mod role;

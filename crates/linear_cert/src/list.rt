@@ -8,10 +8,11 @@ ghost use Rattle.linear_cert.specs.Facts.{facts_of, meet_form, moves_fit};
 use crate::declared::declared_facts;
 use crate::facts::Facts;
 use crate::given::form_of;
+use crate::met::MetAtoms;
 use crate::refusal::CertRefusal;
 use crate::role::{Fact, Met};
 use crate::walk::meet_form;
-use affine_index::{Aff, Atom};
+use affine_index::Aff;
 use sqlite_items::Items;
 use std::alloc::Global;
 
@@ -30,12 +31,7 @@ fn shortened(list: Items<Fact>, count: usize) -> Items<Fact>
 }
 
 /// The atoms of a fact, of which some were met before.
-fn meet_fact(
-    alloc: Global,
-    atoms: Items<Atom>,
-    facts: &Facts,
-    fact: &Fact,
-) -> Result<Met, CertRefusal>
+fn meet_fact(alloc: Global, atoms: MetAtoms, facts: &Facts, fact: &Fact) -> Result<Met, CertRefusal>
     ensures { IfOk result (λ met. met ≡ meet_form facts.now atoms (cmp_form fact.now.cmp)) }
 {
     meet_form(alloc, atoms, facts, form_of(&fact.cmp))
@@ -52,7 +48,7 @@ pub fn facts_of(alloc: Global, facts: &Facts, goal: &Aff) -> Result<Items<Fact>,
     let Met {
         mut atoms,
         facts: first,
-    } = meet_form(alloc, Items::new(alloc), facts, goal)?;
+    } = meet_form(alloc, MetAtoms::new(alloc), facts, goal)?;
     let mut list = declared_facts(alloc, facts)?;
     list.append(first)?;
     let mut i = 0;

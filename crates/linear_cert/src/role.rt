@@ -1,5 +1,6 @@
 //! The facts of a list, each with what it is a bound of.
 
+use crate::met::MetAtoms;
 use affine_index::{Atom, Cmp};
 use sqlite_items::Items;
 
@@ -32,6 +33,6 @@ pub struct Fact {
 /// The atoms met so far, and the facts that they added.
 #[derive(Drop)]
 pub struct Met {
-    pub atoms: Items<Atom>,
+    pub atoms: MetAtoms,
     pub facts: Items<Fact>,
 }

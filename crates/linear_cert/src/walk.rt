@@ -9,6 +9,7 @@ ghost use Rattle.linear_cert.specs.Within.{atom_parts, form_parts, list_parts, t
 
 use crate::adding::meet;
 use crate::facts::Facts;
+use crate::met::MetAtoms;
 use crate::refusal::CertRefusal;
 use crate::role::Met;
 use affine_index::{Aff, Atom, Item};
@@ -79,7 +80,7 @@ fn meet_terms(
 /// The atoms of a form, of which some were met before.
 pub fn meet_form(
     alloc: Global,
-    atoms: Items<Atom>,
+    atoms: MetAtoms,
     facts: &Facts,
     form: &Aff,
 ) -> Result<Met, CertRefusal>
