@@ -1,6 +1,6 @@
 -- What the code of an attempt rests on.
 use Rattle.std.proofs.Common.{◌≡◌, ℕ, zero, suc, ◌+◌, ◌*◌, ◌/◌, ◌%◌, ◌^◌, ◌<◌, ◌≤◌, List, [], ◌∷◌, ◌++◌, length, drop, take, get_or, refl, ap, sym, ◌∙◌, subst, Bool, true, false, ◌&&◌, Option, Some, None, eqb, nat_le, mul-le-mul, arith}
-use Rattle.std.specs.Prelude.{ℤ, pos, negsuc, ◌+ℤ◌, ◌*ℤ◌, if◌then◌else◌}
+use Rattle.std.specs.Prelude.{ℤ, pos, negsuc, ◌+ℤ◌, ◌*ℤ◌, if◌then◌else◌, slice_set}
 use Rattle.std.specs.Int.{IsGcd}
 use Rattle.std.specs.Int.RustNames.{unsigned_abs}
 use Rattle.std.proofs.lemmas.Bool.{and_parts}
@@ -10,10 +10,12 @@ use Rattle.std.proofs.lemmas.Nat.{le-div}
 use Rattle.std.proofs.Math.Dec.{eqb-suc-zero, eqb-zero-suc}
 use Rattle.std.proofs.Math.Nat.{div-le_self, eq-zero_of_zero-dvd, mod-lt}
 use Rattle.affine_index.specs.Normal.{is_normal}
-use Rattle.affine_index.specs.Sum.{scaled}
+use Rattle.affine_index.specs.Sum.{scaled, scaled_terms}
 use Rattle.affine_index.specs.Wide.{norm}
 use Rattle.affine_index.proofs.NormLaws.{scaled-norm}
 use Rattle.affine_index.proofs.PutNorm.{normal-norm}
+use Rattle.affine_index.specs.declared.form.Atom.{Atom}
+use Rattle.affine_index.specs.declared.form.Item.{Item}
 use Rattle.affine_index.specs.declared.form.Items.{Items}
 use Rattle.linear_cert.proofs.Appending.{drop-item, take-all}
 use Rattle.linear_cert.proofs.RoomLaws.{few-from, few-is, length-add, length-all, many-is}
@@ -83,6 +85,27 @@ times-next by zs i at amount d z v some more h e q a b =
 
 pub times-all : (by : ℕ) (zs : List ℤ) (n at : ℕ) (m : ℤ) (some : List ℤ) → length zs ≤ n → some ≡ take n (add_at (all_times by zs) at m) → some ≡ add_at (all_times by zs) at m
 times-all by zs n at m some h e = e ∙ take-all n (add_at (all_times by zs) at m) (omega (arith, length-add (all_times by zs) at m, length-all by zs))
+
+once : (z : ℤ) → pos 1 *ℤ z ≡ z
+once z = omega (arith, ints)
+
+all_once : (zs : List ℤ) → all_times 1 zs ≡ zs
+all_once [] = refl
+all_once (z ∷ zs) = λ k. once z k ∷ all_once zs k
+
+-- one multiplier more, where the others are taken once
+pub set-more : (zs : List ℤ) (at amount : ℕ) (d z v : ℤ) → at < length zs → z ≡ get_or zs at d → v ≡ (pos 1 *ℤ z) +ℤ pos amount → slice_set zs at v ≡ add_at (all_times 1 zs) at (pos amount)
+set-more [] at amount d z v h e q = absurd (omega arith)
+set-more (x ∷ zs) zero amount d z v h e q = λ k. (q ∙ ap (λ y. (pos 1 *ℤ y) +ℤ pos amount) e) k ∷ sym (all_once zs) k
+set-more (x ∷ zs) (suc at) amount d z v h e q = λ k. sym (once x) k ∷ set-more zs at amount d z v (omega arith) e q k
+
+-- a form taken once
+terms_once : (ts : List (Item Atom)) → scaled_terms (pos 1) ts ≡ ts
+terms_once [] = refl
+terms_once (t ∷ ts) = λ k. record { atom = t.atom; coefficient = once t.coefficient k } ∷ terms_once ts k
+
+pub scaled-once : (by : ℕ) (i : Items) → by ≡ 1 → i ≡ scaled (pos by) i
+scaled-once by i e = sym (ap (λ n. scaled (pos n) i) e ∙ λ k. record { terms = terms_once i.terms k; constant = once i.constant k })
 
 -- a multiplier within the limit
 pub fits-at : (zs : List ℤ) (i : ℕ) (d z : ℤ) → i < length zs → z ≡ get_or zs i d → multipliers_fit zs ≡ true → unsigned_abs z ≤ 2 ^ 31

@@ -124,6 +124,34 @@ fn more_times(
     Ok(more)
 }
 
+/// One multiplier more, where all else stays as it is.
+fn one_more(times: Items<i64>, at: usize, amount: u64) -> Items<i64>
+    requires fit { multipliers_fit times ≡ true }
+    requires within { at < length times }
+    requires small { amount ≤ 2 ^ 32 }
+    ensures { result ≡ add_at (all_times 1 times) at (pos amount) }
+{
+    let mut times = times;
+    let time = next_time(times.as_slice()[at], 1, amount);
+    times.set(at, time);
+    times
+}
+
+/// The multipliers after a step. Constant where the number is 1, else linear.
+fn next_times(alloc: Global, times: Items<i64>, step: Step) -> Result<Items<i64>, CertRefusal>
+    requires fit { multipliers_fit times ≡ true }
+    requires within { step.fact < length times }
+    requires few { step.by ≤ 2 ^ 31 }
+    requires small { step.amount ≤ 2 ^ 32 }
+    ensures { IfOk result (λ more. more ≡ add_at (all_times step.by times) step.fact (pos step.amount)) }
+{
+    if step.by == 1 {
+        return Ok(one_more(times, step.fact, step.amount));
+    }
+    let more = more_times(alloc, times.as_slice(), step.by, step.fact, step.amount)?;
+    Ok(more)
+}
+
 fn multipliers_fit(times: &[i64]) -> bool
     ensures { result ≡ multipliers_fit times.now }
 {
@@ -135,13 +163,25 @@ fn multipliers_fit(times: &[i64]) -> bool
     true
 }
 
+/// A form times a number: 1 changes nothing.
+fn multiplied(alloc: Global, by: u64, form: Wide) -> Result<Wide, CertRefusal>
+    requires { by * norm form ≤ 2 ^ 122 }
+    ensures { IfOk result (λ more. more ≡ scaled (pos by) form) }
+{
+    if by == 1 {
+        return Ok(form);
+    }
+    let more = scaled(alloc, i128::from(by), form)?;
+    Ok(more)
+}
+
 /// A form times a number, less another as often as given.
 fn less(alloc: Global, left: Wide, by: u64, form: &Aff, amount: u64) -> Result<Wide, CertRefusal>
     requires room { by * norm left ≤ 2 ^ 122 }
     requires small { amount ≤ 2 ^ 32 }
     ensures { IfOk result (λ less. less ≡ difference_of (scaled (pos by) left) (scaled (pos amount) form.now)) }
 {
-    let whole = scaled(alloc, i128::from(by), left)?;
+    let whole = multiplied(alloc, by, left)?;
     let taken = scaled(alloc, i128::from(amount), copied(alloc, form)?)?;
     let minus = scaled(alloc, -1, taken)?;
     Ok(sum(alloc, whole, minus)?)
@@ -164,7 +204,7 @@ fn after_step(
         goal_times,
         times,
     } = attempt;
-    let times = more_times(alloc, times.as_slice(), step.by, step.fact, step.amount)?;
+    let times = next_times(alloc, times, step)?;
     if !multipliers_fit(times.as_slice()) {
         return Ok(None);
     }

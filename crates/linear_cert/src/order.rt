@@ -27,7 +27,10 @@ fn order_atoms(a: &Atom, b: &Atom) -> Ordering
             _ => Ordering::Less,
         },
         Atom::Div(x, k) => match b {
-            Atom::Div(y, l) => k.cmp(l).then(order_items(x.get(), y.get())),
+            Atom::Div(y, l) => match k.cmp(l) {
+                Ordering::Equal => order_items(x.get(), y.get()),
+                order => order,
+            },
             Atom::Mul(_) => Ordering::Less,
             _ => Ordering::Greater,
         },
