@@ -1,0 +1,15 @@
+pub mod CodeLaws
+pub mod DenotedLaws
+pub mod FormScopes
+pub mod ListLaws
+pub mod ModuleLaws
+pub mod PlaceLaws
+pub mod ScopeLaws
+pub mod ScopeLists
+pub mod SurveyCode
+pub mod SurveyLaws
+pub mod TileLaws
+pub mod TurnFold
+pub mod TurnLaws
+pub mod ValueLaws
+pub mod WordLaws

@@ -1,0 +1,11 @@
+pub mod Answers
+pub mod Denoted
+pub mod Forms
+pub mod Lists
+pub mod Operations
+pub mod Reads
+pub mod Scopes
+pub mod Surveyed
+pub mod Turns
+pub mod Values
+pub mod Words

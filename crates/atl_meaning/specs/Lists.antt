@@ -1,0 +1,7 @@
+-- Lists.
+use Rattle.std.specs.Prelude.{List, [], ◌∷◌}
+
+-- all but the first
+abbrev pub rest_of : {A : Type 0} → List A → List A
+rest_of [] = []
+rest_of (x ∷ xs) = xs

@@ -1,0 +1,173 @@
+//! Extents as forms: those that each operator gives.
+//!
+//! A refusal for a limit of forms is answered as want of memory. By argument, not by proof, the extents of a sound module
+//! meet none.
+
+ghost use Rattle.std.specs.Prelude.{◌≡◌, ◌<◌, ◌≤◌, ◌∷◌, [], Ok, IfOk, MatchOption};
+ghost use Rattle.term_tree.specs.Shape.{tiles};
+ghost use Rattle.atl_meaning.specs.Forms.{chunked_forms, concatenated_forms, flattened_forms, lengthened_forms, shortened_forms, transposed_forms};
+ghost use Rattle.atl_meaning.specs.Lists.{rest_of};
+
+use crate::fault::MeaningFault;
+use affine_index::raw::{copied, quotient, sum, within_limits};
+use affine_index::{Aff, AffRefusal};
+use sqlite_items::Items;
+use std::alloc::Global;
+
+/// A form, where it was made.
+fn made(form: Result<Aff, AffRefusal>) -> Result<Aff, MeaningFault>
+    ensures { IfOk result (λ f. form ≡ Ok f) }
+{
+    match form {
+        Ok(form) => Ok(form),
+        Err(_) => Err(MeaningFault::Memory),
+    }
+}
+
+pub fn copy(alloc: Global, form: &Aff) -> Result<Aff, MeaningFault>
+    ensures { IfOk result (λ f. f ≡ form.now) }
+{
+    made(form.copy(alloc))
+}
+
+/// Equal extents.
+pub fn copies(alloc: Global, extents: &[Aff]) -> Result<Items<Aff>, MeaningFault>
+    ensures { IfOk result (λ copies. copies ≡ extents.now) }
+{
+    let mut copies = Items::new(alloc);
+    for form in extents {
+        copies.push(copy(alloc, form)?)?;
+    }
+    Ok(copies)
+}
+
+/// Takes the first extent, where there is one.
+fn take_first(extents: &mut Items<Aff>) -> Option<Aff>
+    ensures { MatchOption result ((extents.old ≡ []) × (extents.new ≡ [])) (λ n. extents.old ≡ n ∷ extents.new) }
+{
+    if extents.is_empty() {
+        None
+    } else {
+        Some(extents.remove(0))
+    }
+}
+
+/// An extent in front of others.
+pub fn in_front(alloc: Global, first: Aff, rest: Items<Aff>) -> Result<Items<Aff>, MeaningFault>
+    ensures { IfOk result (λ ns. ns ≡ first ∷ rest) }
+{
+    let mut extents = Items::new(alloc);
+    extents.push(first)?;
+    extents.append(rest)?;
+    Ok(extents)
+}
+
+/// The extents of a row.
+pub fn without_first(extents: Items<Aff>) -> Items<Aff>
+    ensures { result ≡ rest_of extents }
+{
+    let mut extents = extents;
+    let _ = take_first(&mut extents);
+    extents
+}
+
+/// The extents of rows of a, then of b.
+pub fn concatenated(alloc: Global, a: Items<Aff>, b: Items<Aff>) -> Result<Items<Aff>, MeaningFault>
+    ensures { IfOk result (λ ns. ns ≡ concatenated_forms a b) }
+{
+    let mut a = a;
+    let mut b = b;
+    match (take_first(&mut a), take_first(&mut b)) {
+        (Some(n), Some(m)) => in_front(alloc, made(n.add(alloc, &m))?, a),
+        (Some(_), None) | (None, Some(_)) | (None, None) => Ok(Items::new(alloc)),
+    }
+}
+
+/// The extents of the rows of the rows.
+pub fn flattened(alloc: Global, extents: Items<Aff>) -> Result<Items<Aff>, MeaningFault>
+    ensures { IfOk result (λ ns. ns ≡ flattened_forms extents) }
+{
+    let mut rest = extents;
+    let Some(n) = take_first(&mut rest) else {
+        return Ok(Items::new(alloc));
+    };
+    let Some(m) = take_first(&mut rest) else {
+        return Ok(Items::new(alloc));
+    };
+    in_front(alloc, made(n.mul(alloc, &m))?, rest)
+}
+
+/// The extents of the columns.
+pub fn transposed(alloc: Global, extents: Items<Aff>) -> Result<Items<Aff>, MeaningFault>
+    ensures { IfOk result (λ ns. ns ≡ transposed_forms extents) }
+{
+    let mut rest = extents;
+    let Some(n) = take_first(&mut rest) else {
+        return Ok(Items::new(alloc));
+    };
+    let Some(m) = take_first(&mut rest) else {
+        return Ok(Items::new(alloc));
+    };
+    let others = in_front(alloc, n, rest)?;
+    in_front(alloc, m, others)
+}
+
+/// How many chunks of k hold n rows. The form on the way has no limits.
+fn tiles(alloc: Global, k: u32, n: &Aff) -> Result<Aff, AffRefusal>
+    requires positive { 0 < k }
+    requires limit { k ≤ 2147483647 }
+    ensures { IfOk result (λ form. form ≡ tiles k n.now) }
+{
+    let more = Aff::literal(alloc, i64::from(k - 1))?;
+    let a = copied(alloc, n)?;
+    let b = copied(alloc, &more)?;
+    let total = sum(alloc, a, b)?;
+    let chunks = quotient(alloc, total, k)?;
+    within_limits(alloc, chunks)
+}
+
+/// The extents of chunks of k rows.
+pub fn chunked(alloc: Global, k: u32, extents: Items<Aff>) -> Result<Items<Aff>, MeaningFault>
+    requires positive { 0 < k }
+    requires limit { k ≤ 2147483647 }
+    ensures { IfOk result (λ ns. ns ≡ chunked_forms k extents) }
+{
+    let mut rest = extents;
+    let Some(n) = take_first(&mut rest) else {
+        return Ok(Items::new(alloc));
+    };
+    let count = made(tiles(alloc, k, &n))?;
+    let rows = made(Aff::literal(alloc, i64::from(k)))?;
+    let others = in_front(alloc, rows, rest)?;
+    in_front(alloc, count, others)
+}
+
+/// The extents without so many rows.
+pub fn shortened(
+    alloc: Global,
+    count: &Aff,
+    extents: Items<Aff>,
+) -> Result<Items<Aff>, MeaningFault>
+    ensures { IfOk result (λ ns. ns ≡ shortened_forms count.now extents) }
+{
+    let mut rest = extents;
+    let Some(n) = take_first(&mut rest) else {
+        return Ok(Items::new(alloc));
+    };
+    in_front(alloc, made(n.sub(alloc, count))?, rest)
+}
+
+/// The extents with so many more rows.
+pub fn lengthened(
+    alloc: Global,
+    count: &Aff,
+    extents: Items<Aff>,
+) -> Result<Items<Aff>, MeaningFault>
+    ensures { IfOk result (λ ns. ns ≡ lengthened_forms count.now extents) }
+{
+    let mut rest = extents;
+    let Some(n) = take_first(&mut rest) else {
+        return Ok(Items::new(alloc));
+    };
+    in_front(alloc, made(n.add(alloc, count))?, rest)
+}

@@ -1,0 +1,413 @@
+//! The first node with too many words.
+#![tactic(auto, using(crate::proofs::FormScopes::scope_laws))]
+
+ghost use Rattle.std.specs.Prelude.{◌≡◌, ◌+◌, ◌<◌, ◌≤◌, ◌∷◌, [], get_or, length, true, false, IfOk, IsTrue, OnOk};
+ghost use Rattle.term_tree.specs.Modules.{extents_scoped};
+ghost use Rattle.atl_meaning.specs.Forms.{chunked_forms, concatenated_forms, each_scoped, flattened_forms, lengthened_forms, shortened_forms, transposed_forms};
+ghost use Rattle.atl_meaning.specs.Words.{at_least_one, first_of, is_large, largest_index};
+ghost use Rattle.atl_meaning.specs.Surveyed.{found_at, surveyed, under_found};
+ghost use Rattle.atl_meaning.specs.Scopes.{placed, sized};
+ghost use Rattle.affine_index.specs.Limited.{items_scoped};
+
+use crate::fault::MeaningFault;
+use crate::forms::{
+    chunked, concatenated, copies, copy, flattened, in_front, lengthened, shortened, transposed,
+    without_first,
+};
+use crate::found::Found;
+use crate::stack::Stack;
+use crate::variables::Variables;
+use crate::words::{any_large_comparison, first_of, is_large, too_big, words_at};
+use affine_index::Aff;
+use sqlite_items::Items;
+use std::alloc::Global;
+use term_tree::Term;
+
+/// A node of these extents, where `later` is found below it.
+fn at_node(
+    sizes: &[u64],
+    floor: &[u64],
+    extents: Items<Aff>,
+    large: bool,
+    later: Option<u64>,
+) -> Result<Found, MeaningFault>
+    requires floor { floor.now ≡ at_least_one sizes.now }
+    requires scoped { extents_scoped (length sizes.now) extents ≡ true }
+    ensures found { IfOk result (λ found. found ≡ found_at sizes.now extents large later) }
+    ensures scoped { IfOk result (λ found. extents_scoped (length sizes.now) found.extents ≡ true) }
+{
+    let words = words_at(extents.as_slice(), sizes, floor, large)?;
+    Ok(Found {
+        extents,
+        big: too_big(words, later),
+    })
+}
+
+/// So many rows of a child.
+fn rows_node(
+    alloc: Global,
+    sizes: &[u64],
+    floor: &[u64],
+    count: &Aff,
+    child: Found,
+) -> Result<Found, MeaningFault>
+    requires floor { floor.now ≡ at_least_one sizes.now }
+    requires scoped { extents_scoped (length sizes.now) child.extents ≡ true }
+    requires count { IsTrue (items_scoped (length sizes.now) 0 count.now) }
+    ensures found { IfOk result (λ found. found ≡ found_at sizes.now (count.now ∷ child.extents) (is_large (at_least_one sizes.now) [] count.now) child.big) }
+    ensures scoped { IfOk result (λ found. extents_scoped (length sizes.now) found.extents ≡ true) }
+{
+    let big = child.big;
+    let extents = in_front(alloc, copy(alloc, count)?, child.extents)?;
+    at_node(sizes, floor, extents, is_large(count, floor, &[]), big)
+}
+
+/// The rows of the rows of a child.
+fn flattened_node(
+    alloc: Global,
+    sizes: &[u64],
+    floor: &[u64],
+    child: Found,
+) -> Result<Found, MeaningFault>
+    requires floor { floor.now ≡ at_least_one sizes.now }
+    requires scoped { extents_scoped (length sizes.now) child.extents ≡ true }
+    ensures found { IfOk result (λ found. found ≡ found_at sizes.now (flattened_forms child.extents) false child.big) }
+    ensures scoped { IfOk result (λ found. extents_scoped (length sizes.now) found.extents ≡ true) }
+{
+    let big = child.big;
+    let extents = flattened(alloc, child.extents)?;
+    at_node(sizes, floor, extents, false, big)
+}
+
+/// A child in chunks of k rows.
+fn chunked_node(
+    alloc: Global,
+    sizes: &[u64],
+    floor: &[u64],
+    k: u32,
+    child: Found,
+) -> Result<Found, MeaningFault>
+    requires floor { floor.now ≡ at_least_one sizes.now }
+    requires scoped { extents_scoped (length sizes.now) child.extents ≡ true }
+    requires positive { 0 < k }
+    requires limit { k ≤ 2147483647 }
+    ensures found { IfOk result (λ found. found ≡ found_at sizes.now (chunked_forms k child.extents) false child.big) }
+    ensures scoped { IfOk result (λ found. extents_scoped (length sizes.now) found.extents ≡ true) }
+{
+    let big = child.big;
+    let extents = chunked(alloc, k, child.extents)?;
+    at_node(sizes, floor, extents, false, big)
+}
+
+/// The columns of a child.
+fn transposed_node(
+    alloc: Global,
+    sizes: &[u64],
+    floor: &[u64],
+    child: Found,
+) -> Result<Found, MeaningFault>
+    requires floor { floor.now ≡ at_least_one sizes.now }
+    requires scoped { extents_scoped (length sizes.now) child.extents ≡ true }
+    ensures found { IfOk result (λ found. found ≡ found_at sizes.now (transposed_forms child.extents) false child.big) }
+    ensures scoped { IfOk result (λ found. extents_scoped (length sizes.now) found.extents ≡ true) }
+{
+    let big = child.big;
+    let extents = transposed(alloc, child.extents)?;
+    at_node(sizes, floor, extents, false, big)
+}
+
+/// A child without so many rows.
+fn shortened_node(
+    alloc: Global,
+    sizes: &[u64],
+    floor: &[u64],
+    count: &Aff,
+    child: Found,
+) -> Result<Found, MeaningFault>
+    requires floor { floor.now ≡ at_least_one sizes.now }
+    requires scoped { extents_scoped (length sizes.now) child.extents ≡ true }
+    requires count { IsTrue (items_scoped (length sizes.now) 0 count.now) }
+    ensures found { IfOk result (λ found. found ≡ found_at sizes.now (shortened_forms count.now child.extents) (is_large (at_least_one sizes.now) [] count.now) child.big) }
+    ensures scoped { IfOk result (λ found. extents_scoped (length sizes.now) found.extents ≡ true) }
+{
+    let big = child.big;
+    let extents = shortened(alloc, count, child.extents)?;
+    at_node(sizes, floor, extents, is_large(count, floor, &[]), big)
+}
+
+/// A child with so many more rows.
+fn lengthened_node(
+    alloc: Global,
+    sizes: &[u64],
+    floor: &[u64],
+    count: &Aff,
+    child: Found,
+) -> Result<Found, MeaningFault>
+    requires floor { floor.now ≡ at_least_one sizes.now }
+    requires scoped { extents_scoped (length sizes.now) child.extents ≡ true }
+    requires count { IsTrue (items_scoped (length sizes.now) 0 count.now) }
+    ensures found { IfOk result (λ found. found ≡ found_at sizes.now (lengthened_forms count.now child.extents) (is_large (at_least_one sizes.now) [] count.now) child.big) }
+    ensures scoped { IfOk result (λ found. extents_scoped (length sizes.now) found.extents ≡ true) }
+{
+    let big = child.big;
+    let extents = lengthened(alloc, count, child.extents)?;
+    at_node(sizes, floor, extents, is_large(count, floor, &[]), big)
+}
+
+/// The extents of a variable; of one that is not in scope, none.
+fn of_variable(
+    alloc: Global,
+    shapes: &Stack<Items<Aff>>,
+    var: u32,
+) -> Result<Items<Aff>, MeaningFault>
+    ensures { IfOk result (λ ns. ns ≡ get_or shapes.now var []) }
+{
+    match shapes.get(var) {
+        Some(extents) => copies(alloc, extents.as_slice()),
+        None => Ok(Items::new(alloc)),
+    }
+}
+
+/// A term under one more index variable, whose extent is given.
+#[cycle(survey)]
+fn under_binder(
+    alloc: Global,
+    sizes: &[u64],
+    floor: &[u64],
+    vars: &mut Variables,
+    shapes: &mut Stack<Items<Aff>>,
+    extent: &Aff,
+    term: &Term,
+) -> Result<Found, MeaningFault>
+    requires floor { floor.now ≡ at_least_one sizes.now }
+    requires extent { IsTrue (items_scoped (length sizes.now) 0 extent.now) }
+    requires sized { sized (length sizes.now) term.now ≡ true }
+    requires placed { placed (length sizes.now) term.now (length vars.old + 1) ≡ true }
+    requires shapes { each_scoped (length sizes.now) shapes.old ≡ true }
+    ensures found { IfOk result (λ found. found ≡ surveyed sizes.now term.now (largest_index sizes.now extent.now ∷ vars.old) shapes.old) }
+    ensures scoped { IfOk result (λ found. extents_scoped (length sizes.now) found.extents ≡ true) }
+    ensures vars { OnOk result (vars.new ≡ vars.old) }
+    ensures shapes { OnOk result (shapes.new ≡ shapes.old) }
+{
+    vars.enter(alloc, extent.mag(floor, &[]))?;
+    let found = survey(alloc, sizes, floor, vars, shapes, term)?;
+    vars.leave();
+    Ok(found)
+}
+
+/// A node of the extents of its first operand.
+#[cycle(survey)]
+fn like_first(
+    alloc: Global,
+    sizes: &[u64],
+    floor: &[u64],
+    vars: &mut Variables,
+    shapes: &mut Stack<Items<Aff>>,
+    second: &Term,
+    first: Found,
+) -> Result<Found, MeaningFault>
+    requires floor { floor.now ≡ at_least_one sizes.now }
+    requires sized { sized (length sizes.now) second.now ≡ true }
+    requires placed { placed (length sizes.now) second.now (length vars.old) ≡ true }
+    requires shapes { each_scoped (length sizes.now) shapes.old ≡ true }
+    requires first { extents_scoped (length sizes.now) first.extents ≡ true }
+    ensures found { IfOk result (λ found. found ≡ found_at sizes.now (first.extents) false (first_of first.big (surveyed sizes.now second.now vars.old shapes.old).big)) }
+    ensures scoped { IfOk result (λ found. extents_scoped (length sizes.now) found.extents ≡ true) }
+    ensures vars { OnOk result (vars.new ≡ vars.old) }
+    ensures shapes { OnOk result (shapes.new ≡ shapes.old) }
+{
+    let other = survey(alloc, sizes, floor, vars, shapes, second)?;
+    let big = first_of(first.big, other.big);
+    at_node(sizes, floor, first.extents, false, big)
+}
+
+/// A word of two operands.
+#[cycle(survey)]
+fn word_of_both(
+    alloc: Global,
+    sizes: &[u64],
+    floor: &[u64],
+    vars: &mut Variables,
+    shapes: &mut Stack<Items<Aff>>,
+    second: &Term,
+    first: Found,
+) -> Result<Found, MeaningFault>
+    requires floor { floor.now ≡ at_least_one sizes.now }
+    requires sized { sized (length sizes.now) second.now ≡ true }
+    requires placed { placed (length sizes.now) second.now (length vars.old) ≡ true }
+    requires shapes { each_scoped (length sizes.now) shapes.old ≡ true }
+    requires first { extents_scoped (length sizes.now) first.extents ≡ true }
+    ensures found { IfOk result (λ found. found ≡ found_at sizes.now ([]) false (first_of first.big (surveyed sizes.now second.now vars.old shapes.old).big)) }
+    ensures scoped { IfOk result (λ found. extents_scoped (length sizes.now) found.extents ≡ true) }
+    ensures vars { OnOk result (vars.new ≡ vars.old) }
+    ensures shapes { OnOk result (shapes.new ≡ shapes.old) }
+{
+    let other = survey(alloc, sizes, floor, vars, shapes, second)?;
+    let big = first_of(first.big, other.big);
+    at_node(sizes, floor, Items::new(alloc), false, big)
+}
+
+/// The rows of a first operand, then those of a second.
+#[cycle(survey)]
+fn concatenated_node(
+    alloc: Global,
+    sizes: &[u64],
+    floor: &[u64],
+    vars: &mut Variables,
+    shapes: &mut Stack<Items<Aff>>,
+    second: &Term,
+    first: Found,
+) -> Result<Found, MeaningFault>
+    requires floor { floor.now ≡ at_least_one sizes.now }
+    requires sized { sized (length sizes.now) second.now ≡ true }
+    requires placed { placed (length sizes.now) second.now (length vars.old) ≡ true }
+    requires shapes { each_scoped (length sizes.now) shapes.old ≡ true }
+    requires first { extents_scoped (length sizes.now) first.extents ≡ true }
+    ensures found { IfOk result (λ found. found ≡ found_at sizes.now (concatenated_forms first.extents (surveyed sizes.now second.now vars.old shapes.old).extents) false (first_of first.big (surveyed sizes.now second.now vars.old shapes.old).big)) }
+    ensures scoped { IfOk result (λ found. extents_scoped (length sizes.now) found.extents ≡ true) }
+    ensures vars { OnOk result (vars.new ≡ vars.old) }
+    ensures shapes { OnOk result (shapes.new ≡ shapes.old) }
+{
+    let other = survey(alloc, sizes, floor, vars, shapes, second)?;
+    let big = first_of(first.big, other.big);
+    let extents = concatenated(alloc, first.extents, other.extents)?;
+    at_node(sizes, floor, extents, false, big)
+}
+
+/// A body under its definition.
+#[cycle(survey)]
+fn under_definition(
+    alloc: Global,
+    sizes: &[u64],
+    floor: &[u64],
+    vars: &mut Variables,
+    shapes: &mut Stack<Items<Aff>>,
+    second: &Term,
+    first: Found,
+) -> Result<Found, MeaningFault>
+    requires floor { floor.now ≡ at_least_one sizes.now }
+    requires sized { sized (length sizes.now) second.now ≡ true }
+    requires placed { placed (length sizes.now) second.now (length vars.old) ≡ true }
+    requires shapes { each_scoped (length sizes.now) shapes.old ≡ true }
+    requires first { extents_scoped (length sizes.now) first.extents ≡ true }
+    ensures found { IfOk result (λ found. found ≡ under_found sizes.now first (surveyed sizes.now second.now vars.old (first.extents ∷ shapes.old))) }
+    ensures scoped { IfOk result (λ found. extents_scoped (length sizes.now) found.extents ≡ true) }
+    ensures vars { OnOk result (vars.new ≡ vars.old) }
+    ensures shapes { OnOk result (shapes.new ≡ shapes.old) }
+{
+    shapes.enter(first.extents)?;
+    let body = survey(alloc, sizes, floor, vars, shapes, second)?;
+    shapes.leave();
+    at_node(
+        sizes,
+        floor,
+        body.extents,
+        false,
+        first_of(first.big, body.big),
+    )
+}
+
+/// What is found of a term under the magnitudes of its index variables and the extents of its tensor variables. Each
+/// node is visited once. The second sizes are the first, counted as at least 1.
+#[cycle(survey)]
+pub fn survey(
+    alloc: Global,
+    sizes: &[u64],
+    floor: &[u64],
+    vars: &mut Variables,
+    shapes: &mut Stack<Items<Aff>>,
+    term: &Term,
+) -> Result<Found, MeaningFault>
+    requires floor { floor.now ≡ at_least_one sizes.now }
+    requires sized { sized (length sizes.now) term.now ≡ true }
+    requires placed { placed (length sizes.now) term.now (length vars.old) ≡ true }
+    requires shapes { each_scoped (length sizes.now) shapes.old ≡ true }
+    ensures found { IfOk result (λ found. found ≡ surveyed sizes.now term.now vars.old shapes.old) }
+    ensures scoped { IfOk result (λ found. extents_scoped (length sizes.now) found.extents ≡ true) }
+    ensures vars { OnOk result (vars.new ≡ vars.old) }
+    ensures shapes { OnOk result (shapes.new ≡ shapes.old) }
+{
+    match term {
+        Term::Lit(_) => at_node(sizes, floor, Items::new(alloc), false, None),
+        Term::TVar(var) => {
+            let extents = of_variable(alloc, shapes, *var)?;
+            at_node(sizes, floor, extents, false, None)
+        }
+        Term::WordOf(x) => {
+            let large = is_large(x, floor, vars.as_slice());
+            at_node(sizes, floor, Items::new(alloc), large, None)
+        }
+        Term::Index(e, x) => {
+            let child = survey(alloc, sizes, floor, vars, shapes, e.get())?;
+            let large = is_large(x, floor, vars.as_slice());
+            at_node(sizes, floor, without_first(child.extents), large, child.big)
+        }
+        Term::Gen(n, e) => {
+            let child = under_binder(alloc, sizes, floor, vars, shapes, n, e.get())?;
+            rows_node(alloc, sizes, floor, n, child)
+        }
+        Term::Sum(n, e) => {
+            let child = under_binder(alloc, sizes, floor, vars, shapes, n, e.get())?;
+            at_node(
+                sizes,
+                floor,
+                child.extents,
+                is_large(n, floor, &[]),
+                child.big,
+            )
+        }
+        Term::Guard(c, e) => {
+            let child = survey(alloc, sizes, floor, vars, shapes, e.get())?;
+            let large = any_large_comparison(c, floor, vars.as_slice());
+            at_node(sizes, floor, child.extents, large, child.big)
+        }
+        Term::Let(a, b) => {
+            let first = survey(alloc, sizes, floor, vars, shapes, a.get())?;
+            under_definition(alloc, sizes, floor, vars, shapes, b.get(), first)
+        }
+        Term::Add(a, b) => {
+            let first = survey(alloc, sizes, floor, vars, shapes, a.get())?;
+            like_first(alloc, sizes, floor, vars, shapes, b.get(), first)
+        }
+        Term::Sub(a, b) => {
+            let first = survey(alloc, sizes, floor, vars, shapes, a.get())?;
+            like_first(alloc, sizes, floor, vars, shapes, b.get(), first)
+        }
+        Term::Mul(a, b) => {
+            let first = survey(alloc, sizes, floor, vars, shapes, a.get())?;
+            word_of_both(alloc, sizes, floor, vars, shapes, b.get(), first)
+        }
+        Term::Concat(a, b) => {
+            let first = survey(alloc, sizes, floor, vars, shapes, a.get())?;
+            concatenated_node(alloc, sizes, floor, vars, shapes, b.get(), first)
+        }
+        Term::Flatten(e) => {
+            let child = survey(alloc, sizes, floor, vars, shapes, e.get())?;
+            flattened_node(alloc, sizes, floor, child)
+        }
+        Term::Split(k, e) => {
+            let child = survey(alloc, sizes, floor, vars, shapes, e.get())?;
+            chunked_node(alloc, sizes, floor, *k, child)
+        }
+        Term::Transpose(e) => {
+            let child = survey(alloc, sizes, floor, vars, shapes, e.get())?;
+            transposed_node(alloc, sizes, floor, child)
+        }
+        Term::TruncL(n, e) => {
+            let child = survey(alloc, sizes, floor, vars, shapes, e.get())?;
+            shortened_node(alloc, sizes, floor, n, child)
+        }
+        Term::TruncR(n, e) => {
+            let child = survey(alloc, sizes, floor, vars, shapes, e.get())?;
+            shortened_node(alloc, sizes, floor, n, child)
+        }
+        Term::PadL(n, e) => {
+            let child = survey(alloc, sizes, floor, vars, shapes, e.get())?;
+            lengthened_node(alloc, sizes, floor, n, child)
+        }
+        Term::PadR(n, e) => {
+            let child = survey(alloc, sizes, floor, vars, shapes, e.get())?;
+            lengthened_node(alloc, sizes, floor, n, child)
+        }
+    }
+}
