@@ -1,5 +1,5 @@
 -- Atoms in order, and where one stands among them.
-use Rattle.std.proofs.Common.{◌≡◌, ℕ, zero, suc, ◌+◌, ◌-◌, ◌<◌, ◌≤◌, List, [], ◌∷◌, ◌++◌, length, drop, take, get_or, refl, ap, sym, ◌∙◌, subst, Bool, true, false, ◌||◌, arith}
+use Rattle.std.proofs.Common.{◌≡◌, ℕ, zero, suc, ◌+◌, ◌-◌, ◌<◌, List, [], ◌∷◌, ◌++◌, length, drop, take, get_or, refl, ap, sym, ◌∙◌, subst, Bool, true, false, ◌||◌, arith}
 use Rattle.std.specs.List.{insert}
 use Rattle.std.specs.Ordering.{is_eq, is_le, is_lt, ordering_reverse}
 use Rattle.std.specs.declared.cmp.Ordering.{Ordering}
@@ -145,11 +145,15 @@ stands-more b a [] = refl
 stands-more b a (x ∷ xs) = ap (λ c. same_atoms b x || c) (stands-more b a xs) ∙ or-turn (same_atoms b x) (same_atoms b a) (stands_among b xs)
 
 -- an atom more is known
-pub known-more : (met sorted : List Atom) (a : Atom) (n : ℕ) → Known met sorted → Splits a sorted n → Known (met ++ a ∷ []) (take n sorted ++ a ∷ drop n sorted)
+known-more : (met sorted : List Atom) (a : Atom) (n : ℕ) → Known met sorted → Splits a sorted n → Known (met ++ a ∷ []) (take n sorted ++ a ∷ drop n sorted)
 known-more met sorted a n k p = record {
   sorted = sorted-put a sorted n k.sorted p.before p.after;
   same = λ b. stands-put b a sorted n ∙ ap (λ c. same_atoms b a || c) (k.same b) ∙ sym (stands-more b a met);
 }
+
+pub known-with : (met list more put : List Atom) (a x y : Atom) (n : ℕ) → Known met list → Splits a list n → more ≡ met ++ x ∷ [] → x ≡ a → put ≡ insert list n y → y ≡ a → Known more put
+known-with met list more put a x y n k p m e q f =
+    subst (λ (xs : List Atom). Known xs put) (sym (m ∙ ap (λ (z : Atom). met ++ z ∷ []) e)) (subst (λ (xs : List Atom). Known (met ++ a ∷ []) xs) (sym (q ∙ ap (insert list n) f)) (known-more met list a n k p))
 
 -- an atom before a list in order stands in it where it is the first
 pub first-same : (a : Atom) (xs : List Atom) (x : Atom) (r : Bool) → (length xs ≡ 0 → ⊥) → x ≡ get_or xs 0 x → SortedFactors (a ∷ xs) → r ≡ same_atoms a x → r ≡ stands_in a xs
@@ -172,8 +176,5 @@ slice-sorted a xs n s m =
 
 pub stands-slice : (a : Atom) (xs : List Atom) (n : ℕ) → Each (Less_than a) (take n xs) → stands_in a (take (length xs - n) (drop n xs)) ≡ stands_among a xs
 stands-slice a xs n b = ap (stands_in a) (take-all (length xs - n) (drop n xs) (omega (arith, length-drop n xs))) ∙ sym (among-is a (drop n xs)) ∙ stands-split a xs n b
-
-pub inserted-is : (xs : List Atom) (n : ℕ) (a : Atom) → insert xs n a ≡ take n xs ++ a ∷ drop n xs
-inserted-is xs n a = refl
 
 pub ruleset search_laws = (order-items, order-factors)

@@ -1,5 +1,5 @@
 -- The product of the factors of a product without one of them is a single atom.
-use Rattle.std.proofs.Common.{◌≡◌, ℕ, suc, ◌+◌, ◌≤◌, ◌⊎◌, inl, inr, List, [], ◌∷◌, length, map, refl, ap, sym, ◌∙◌, subst, Bool, true, false, ◌&&◌, ◌||◌, Some, arith}
+use Rattle.std.proofs.Common.{◌≡◌, suc, ◌+◌, ◌≤◌, ◌⊎◌, inl, inr, List, [], ◌∷◌, length, map, refl, ap, sym, ◌∙◌, subst, Bool, true, false, ◌&&◌, ◌||◌, Some, arith}
 use Rattle.std.specs.Prelude.{pos, if◌then◌else◌}
 use Rattle.affine_index.specs.Count.{atom_count, total}
 use Rattle.affine_index.specs.Form.{literal_form, of_atom}
@@ -14,7 +14,6 @@ use Rattle.affine_index.proofs.Sorted.{ordered-terms}
 use Rattle.affine_index.proofs.VarLaws.{vars-items, vars-Mul}
 use Rattle.affine_index.specs.declared.form.Atom.{Atom}
 use Rattle.affine_index.specs.declared.form.Atom.TheVariants.{Mul}
-use Rattle.affine_index.specs.declared.form.Items.{Items}
 use Rattle.linear_cert.proofs.AddLaws.{once-normal, without-each}
 use Rattle.linear_cert.proofs.AtomLaws.{normal-ordered}
 use Rattle.linear_cert.proofs.CodeLaws.{kept-ok, product-apart}

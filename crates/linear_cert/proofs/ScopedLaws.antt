@@ -1,5 +1,5 @@
 -- Guards of well scoped facts keep small variable numbers when they are moved to the end of the path.
-use Rattle.std.proofs.Common.{◌≡◌, ℕ, zero, suc, ◌+◌, ◌^◌, ◌<◌, ◌≤◌, List, [], ◌∷◌, map, length, refl, ap, sym, ◌∙◌, Bool, true, false, ◌&&◌, ◌||◌, nat_lt, arith}
+use Rattle.std.proofs.Common.{◌≡◌, ℕ, suc, ◌+◌, ◌^◌, ◌≤◌, List, [], ◌∷◌, map, length, refl, ap, sym, ◌∙◌, Bool, true, ◌&&◌, ◌||◌, nat_lt, arith}
 use Rattle.std.specs.Prelude.{ℤ}
 use Rattle.std.proofs.lemmas.Bool.{and_from, and_parts}
 use Rattle.affine_index.specs.Condition.{all_scoped, cmp_form}
@@ -15,8 +15,7 @@ use Rattle.affine_index.specs.declared.form.Atom.TheVariants.{Size, Var, Div, Mu
 use Rattle.affine_index.specs.declared.form.Item.{Item}
 use Rattle.affine_index.specs.declared.form.Items.{Items}
 use Rattle.linear_cert.specs.Facts.{binders, cmps_fit, moves_fit}
-use Rattle.linear_cert.specs.Scoped.{ScopedFactsMove, facts_scoped, has_comparison, path_scoped}
-use Rattle.linear_cert.specs.declared.facts.Facts.{Facts}
+use Rattle.linear_cert.specs.Scoped.{ScopedFactsMove, has_comparison, path_scoped}
 use Rattle.linear_cert.specs.declared.facts.PathFact.{PathFact}
 use Rattle.linear_cert.specs.declared.facts.PathFact.TheVariants.{Bound, Holds}
 

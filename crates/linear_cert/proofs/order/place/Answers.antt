@@ -1,4 +1,4 @@
-use Rattle.std.proofs.Common.{◌+◌, ◌-◌, ◌/◌, ◌<◌, ◌∙◌, arith, length, sym}
+use Rattle.std.proofs.Common.{◌+◌, ◌-◌, ◌/◌, ◌<◌, ◌∙◌, arith, sym}
 use Rattle.linear_cert.proofs.OrderedAtoms.{after-more, before-more}
 use Rattle.linear_cert.proofs.order.place.Goals as goal
 
