@@ -1,9 +1,9 @@
 -- Paths of gens: nothing on them is moved.
 use Rattle.std.proofs.Common.{◌≡◌, List, [], ◌∷◌, ◌++◌, refl, true}
 use Rattle.affine_index.specs.declared.form.Items.{Items}
-use Rattle.linear_cert.specs.Facts.{moves_fit}
-use Rattle.linear_cert.specs.declared.facts.PathFact.{PathFact}
-use Rattle.linear_cert.specs.declared.facts.PathFact.TheVariants.{Bound, Holds}
+use Rattle.fact_list.specs.Facts.{moves_fit}
+use Rattle.fact_list.specs.declared.facts.PathFact.{PathFact}
+use Rattle.fact_list.specs.declared.facts.PathFact.TheVariants.{Bound, Holds}
 
 -- no guard stands on a path
 abbrev pub GensAlone : List PathFact → Type 0

@@ -1,10 +1,11 @@
 //! What is known at a place, and what is asked there. An answer of None is want of memory, or that a form breaks a limit.
 
 ghost use Rattle.std.specs.Prelude.{true, ◌≡◌, ◌≤◌, length, IsTrue};
-ghost use Rattle.linear_cert.specs.Facts.{moves_fit};
+ghost use Rattle.fact_list.specs.Facts.{moves_fit};
 
 use affine_index::{Aff, Cmp};
-use linear_cert::{Facts, Line, Lines, SizeBounds, default_lines, shown};
+use fact_list::{Facts, SizeBounds};
+use linear_cert::{Line, Lines, default_lines, shown};
 use sqlite_items::Items;
 use std::alloc::Global;
 

@@ -1,11 +1,11 @@
 //! Long lists and long certificates, to be timed.
 
 ghost use Rattle.std.specs.Prelude.{true, ◌≡◌, ◌≤◌, IfSome};
-ghost use Rattle.linear_cert.specs.Facts.{moves_fit};
+ghost use Rattle.fact_list.specs.Facts.{moves_fit};
 
 use crate::known::{found, list, sizes};
 use affine_index::{Aff, Cmp};
-use linear_cert::{Facts, PathFact};
+use fact_list::{Facts, PathFact};
 use sqlite_items::Items;
 use std::alloc::Global;
 

@@ -4,13 +4,13 @@ ghost use Rattle.std.specs.Prelude.{true, ◌≡◌, [], ◌∷◌, IfSome, IsTr
 ghost use Rattle.affine_index.specs.Form.{size_form};
 ghost use Rattle.affine_index.specs.Normal.{coefficient_fits};
 ghost use Rattle.affine_index.specs.Put.{numbers_fit};
-ghost use Rattle.linear_cert.specs.Facts.{moves_fit};
-ghost use Rattle.linear_cert.specs.declared.facts.PathFact.TheVariants.{Bound};
+ghost use Rattle.fact_list.specs.Facts.{moves_fit};
+ghost use Rattle.fact_list.specs.declared.facts.PathFact.TheVariants.{Bound};
 
 use crate::known::{found, list, shows, sizes};
 use crate::text::{print_facts, print_lines};
 use affine_index::{Aff, Cmp, Cond};
-use linear_cert::{Facts, PathFact, SizeBounds};
+use fact_list::{Facts, PathFact, SizeBounds};
 use sqlite_items::Items;
 use std::alloc::Global;
 use std::io;

@@ -17,7 +17,7 @@ use Rattle.affine_index.proofs.PutNorm.{normal-norm}
 use Rattle.affine_index.specs.declared.form.Atom.{Atom}
 use Rattle.affine_index.specs.declared.form.Item.{Item}
 use Rattle.affine_index.specs.declared.form.Items.{Items}
-use Rattle.linear_cert.proofs.Appending.{drop-item, take-all}
+use Rattle.fact_list.proofs.Appending.{drop-item, take-all}
 use Rattle.linear_cert.proofs.RoomLaws.{few-from, few-is, length-add, length-all, many-is}
 use Rattle.linear_cert.specs.DefaultLines.{add_at, all_times, gcd, gcd_steps, multiplier_fits, multipliers_fit, needed}
 

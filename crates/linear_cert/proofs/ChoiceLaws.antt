@@ -7,13 +7,13 @@ use Rattle.affine_index.proofs.ReadyLaws.{out-Size, out-Var, out-Div, out-Mul}
 use Rattle.affine_index.specs.declared.form.Atom.{Atom, out-Atom}
 use Rattle.affine_index.specs.declared.form.Atom.TheVariants.{Size, Var, Div, Mul}
 use Rattle.affine_index.specs.declared.form.Items.{Items}
-use Rattle.linear_cert.proofs.Appending.{drop-item, take-item}
+use Rattle.fact_list.proofs.Appending.{drop-item, take-item}
+use Rattle.fact_list.specs.declared.role.Fact.{Fact}
+use Rattle.fact_list.specs.declared.role.Role.{Role}
+use Rattle.fact_list.specs.declared.role.Role.TheVariants.{BoundOf, FactorOf, ProductOf}
+use Rattle.fact_list.specs.declared.role.Side.{Side}
+use Rattle.fact_list.specs.declared.role.Side.TheVariants.{Lower, Upper}
 use Rattle.linear_cert.specs.DefaultLines.{atom_or, chosen_factor, chosen_of, divisor_of, factor_role, find_role, layer_chosen, layer_divisor, layer_is_quotient, layer_role, role_for, same_role}
-use Rattle.linear_cert.specs.declared.role.Fact.{Fact}
-use Rattle.linear_cert.specs.declared.role.Role.{Role}
-use Rattle.linear_cert.specs.declared.role.Role.TheVariants.{BoundOf, FactorOf, ProductOf}
-use Rattle.linear_cert.specs.declared.role.Side.{Side}
-use Rattle.linear_cert.specs.declared.role.Side.TheVariants.{Lower, Upper}
 
 module _ {A : Type 0} (test : A → Bool) where
   first-true : (x : A) (xs : List A) → test x ≡ true → find test (x ∷ xs) ≡ Some x

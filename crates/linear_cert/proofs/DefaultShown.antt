@@ -20,19 +20,19 @@ use Rattle.affine_index.specs.declared.cond.Cmp.TheVariants.{Ge, Eq}
 use Rattle.affine_index.specs.declared.form.Atom.{Atom}
 use Rattle.affine_index.specs.declared.form.Item.{Item}
 use Rattle.affine_index.specs.declared.form.Items.{Items}
-use Rattle.linear_cert.proofs.AtomLaws.{normal-ordered}
-use Rattle.linear_cert.proofs.FactsTrue.{at_least_zero-from, at_least_zero-is}
+use Rattle.fact_list.proofs.AtomLaws.{normal-ordered}
+use Rattle.fact_list.proofs.FactsTrue.{at_least_zero-from, at_least_zero-is}
+use Rattle.fact_list.proofs.NotNegative.{times-not_negative}
+use Rattle.fact_list.specs.Normal.{AllNormal}
+use Rattle.fact_list.specs.declared.role.Fact.{Fact}
+use Rattle.fact_list.specs.declared.role.Role.{Role}
+use Rattle.fact_list.specs.declared.role.Role.TheVariants.{Stated, BoundOf, FactorOf, ProductOf}
 use Rattle.linear_cert.proofs.RoomLaws.{length-add, length-all, length-none, role-within}
-use Rattle.linear_cert.proofs.ToAffine.{times-not_negative}
 use Rattle.linear_cert.proofs.Weights.{constant-scaled, mark, no-weight, weight, weight-scaled, weight-sum}
 use Rattle.linear_cert.specs.DefaultLines.{add_at, all_times, attempt_lines, attempt_with, attempts_from, attempts_of_cmp, attempts_of_role, carried_on, chosen_factor, chosen_item, default_lines_of, divisor_of, fact_form, find_role, finished, first_attempt, first_lines, less_fact, limited_attempt, lines_from, needed, no_times, replaced, replaced_item, role_for, side_for, unless_done, with_bound}
-use Rattle.linear_cert.specs.Room.{AllNormal}
 use Rattle.linear_cert.specs.Shown.{form_or_zero, is_negative_constant, line_sum, lines_good, lines_show, may_take, may_take_some, names_fact, negated, no_terms, numbered, taken}
 use Rattle.linear_cert.specs.declared.attempt.Attempt.{Attempt}
 use Rattle.linear_cert.specs.declared.lines.Line.{Line}
-use Rattle.linear_cert.specs.declared.role.Fact.{Fact}
-use Rattle.linear_cert.specs.declared.role.Role.{Role}
-use Rattle.linear_cert.specs.declared.role.Role.TheVariants.{Stated, BoundOf, FactorOf, ProductOf}
 
 -- a number of a form that goes with sums and multiples
 pub record Linear (L : Items → ℤ) : Type 0 where

@@ -6,7 +6,7 @@ use Rattle.affine_index.specs.declared.form.Items.{Items}
 use Rattle.affine_index.specs.declared.form.Atom.TheVariants.{Size, Var, Div, Mul, rolls-Size, rolls-Var, rolls-Mul, rolls-Div}
 use Rattle.affine_index.specs.declared.form.Atom.TheOpen.{Atom-F}
 use Rattle.affine_index.specs.declared.form.Atom.TheFolds.{fold-roll-Atom, fold_out-Items}
-use Rattle.linear_cert.proofs.Appending.{drop-all, drop-item}
+use Rattle.fact_list.proofs.Appending.{drop-all, drop-item}
 use Rattle.linear_cert.specs.DefaultLines.{atom_least, form_least, least_items_step, least_of_all, least_of_items, least_step, lesser, list_least, terms_least}
 
 pub least-Size : (s : ℕ) → atom_least (Size s) ≡ None

@@ -13,9 +13,9 @@ use Rattle.affine_index.specs.Wide.{norm}
 use Rattle.affine_index.proofs.NormLaws.{scaled-norm, sum-norm}
 use Rattle.affine_index.proofs.PutNorm.{normal-norm}
 use Rattle.affine_index.specs.declared.form.Items.{Items}
+use Rattle.fact_list.specs.declared.role.Fact.{Fact}
 use Rattle.linear_cert.specs.Shown.{form_or_zero, lines_good, may_take_some, names_fact, negated, numbered, taken}
 use Rattle.linear_cert.specs.declared.lines.Line.{Line}
-use Rattle.linear_cert.specs.declared.role.Fact.{Fact}
 
 pub numbered-later : (facts : List Fact) (goal : Items) (n : ℕ) → 0 < n → numbered facts goal n ≡ numbered facts goal (suc (n - 1))
 numbered-later facts goal zero h = absurd (omega arith)

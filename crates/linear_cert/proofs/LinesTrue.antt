@@ -16,12 +16,12 @@ use Rattle.affine_index.specs.declared.cond.Cmp.TheVariants.{Ge, Eq}
 use Rattle.affine_index.specs.declared.form.Atom.{Atom}
 use Rattle.affine_index.specs.declared.form.Item.{Item}
 use Rattle.affine_index.specs.declared.form.Items.{Items}
-use Rattle.linear_cert.proofs.FactsTrue.{at_least_zero-from, at_least_zero-is}
-use Rattle.linear_cert.proofs.ToAffine.{times-not_negative}
+use Rattle.fact_list.proofs.FactsTrue.{at_least_zero-from, at_least_zero-is}
+use Rattle.fact_list.proofs.NotNegative.{times-not_negative}
+use Rattle.fact_list.specs.Truth.{AllTrue}
+use Rattle.fact_list.specs.declared.role.Fact.{Fact}
 use Rattle.linear_cert.specs.Shown.{first_total, form_or_zero, is_negative_constant, line_sum, lines_good, lines_show, may_take_some, names_fact, negated, no_terms, numbered, taken}
-use Rattle.linear_cert.specs.Truth.{AllTrue}
 use Rattle.linear_cert.specs.declared.lines.Line.{Line}
-use Rattle.linear_cert.specs.declared.role.Fact.{Fact}
 
 module _ (s r : List ℕ) (facts : List Fact) (goal : Items) (hold : AllTrue s r facts) where
   -- a comparison, where there is one, holds

@@ -13,14 +13,14 @@ use Rattle.affine_index.proofs.NormLaws.{scaled-norm, sum-norm}
 use Rattle.affine_index.proofs.OrderedLaws.{difference-ordered, scaled-ordered}
 use Rattle.affine_index.proofs.PutNorm.{normal-norm}
 use Rattle.affine_index.specs.declared.form.Items.{Items}
-use Rattle.linear_cert.proofs.Appending.{append-none, drop-all, drop-item}
-use Rattle.linear_cert.proofs.AtomLaws.{normal-ordered}
+use Rattle.fact_list.proofs.Appending.{append-none, drop-all, drop-item}
+use Rattle.fact_list.proofs.AtomLaws.{normal-ordered}
+use Rattle.fact_list.specs.declared.role.Fact.{Fact}
 use Rattle.linear_cert.proofs.RoomLaws.{length-add, length-none, room-more}
 use Rattle.linear_cert.specs.DefaultLines.{add_at, attempt_lines, attempt_with, attempts_from, attempts_of_role, carried_on, finished, first_attempt, first_lines, lines_from, multiplier_fits, multipliers_fit, no_times, replaced, unless_done}
 use Rattle.linear_cert.specs.Room.{AllAbove, Room}
 use Rattle.linear_cert.specs.declared.attempt.Attempt.{Attempt}
 use Rattle.linear_cert.specs.declared.lines.Line.{Line}
-use Rattle.linear_cert.specs.declared.role.Fact.{Fact}
 
 pub none-end : (facts : List Fact) (n : ℕ) (times : List ℤ) → length facts ≤ n → times ++ no_times (drop n facts) ≡ no_times facts → times ≡ no_times facts
 none-end facts n times h e = sym (ap (λ xs. times ++ no_times xs) (drop-all n facts h) ∙ append-none times) ∙ e

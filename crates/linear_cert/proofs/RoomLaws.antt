@@ -24,15 +24,16 @@ use Rattle.affine_index.specs.declared.form.Atom.{Atom, out-Atom}
 use Rattle.affine_index.specs.declared.form.Atom.TheVariants.{Mul}
 use Rattle.affine_index.specs.declared.form.Item.{Item}
 use Rattle.affine_index.specs.declared.form.Items.{Items}
-use Rattle.linear_cert.proofs.AtomLaws.{normal-ordered}
+use Rattle.fact_list.proofs.AtomLaws.{normal-ordered}
+use Rattle.fact_list.proofs.NotNegative.{times-not_negative}
+use Rattle.fact_list.specs.Normal.{AllNormal}
+use Rattle.fact_list.specs.declared.role.Fact.{Fact}
+use Rattle.fact_list.specs.declared.role.Side.{Side}
 use Rattle.linear_cert.proofs.ChoiceLaws.{divisor-Div, divisor-Mul, divisor-Size, divisor-Var, factor-Div, factor-Mul, factor-Size, factor-Var, slice-at}
-use Rattle.linear_cert.proofs.ToAffine.{times-not_negative}
 use Rattle.linear_cert.specs.DefaultLines.{add_at, all_times, atom_least, atom_or, chosen_factor, chosen_item, chosen_of, divisor_of, fact_form, find_role, layer_is_quotient, less_fact, limited_attempt, multiplier_fits, multipliers_fit, needed, no_times, replaced, replaced_item, role_for, side_for, with_bound}
-use Rattle.linear_cert.specs.Room.{AllAbove, AllNormal, Room, StepOf}
+use Rattle.linear_cert.specs.Room.{AllAbove, Room, StepOf}
 use Rattle.linear_cert.specs.declared.attempt.Attempt.{Attempt}
 use Rattle.linear_cert.specs.declared.attempt.Step.{Step}
-use Rattle.linear_cert.specs.declared.role.Fact.{Fact}
-use Rattle.linear_cert.specs.declared.role.Side.{Side}
 
 -- the coefficient of an item is at most all of them together
 pub coefficient-most : (ts : List (Item Atom)) (i : ℕ) (x : Item Atom) → i < length ts → x ≡ get_or ts i x → unsigned_abs x.coefficient ≤ terms_norm ts

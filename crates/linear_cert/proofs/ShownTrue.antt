@@ -5,20 +5,20 @@ use Rattle.std.specs.Option.{is_some}
 use Rattle.affine_index.specs.Normal.{is_normal}
 use Rattle.affine_index.specs.Value.{items_value}
 use Rattle.affine_index.specs.declared.form.Items.{Items}
+use Rattle.fact_list.proofs.FactsTrue.{AllGood, facts-good, good-true}
+use Rattle.fact_list.proofs.PlaceTrue.{declared-true}
+use Rattle.fact_list.specs.Facts.{facts_of}
+use Rattle.fact_list.specs.Normal.{AllNormal, PathKept}
+use Rattle.fact_list.specs.Truth.{AllTrue, HoldsAtPlace, HoldsWithFacts}
+use Rattle.fact_list.specs.declared.facts.Facts.{Facts}
+use Rattle.fact_list.specs.declared.role.Fact.{Fact}
 use Rattle.linear_cert.proofs.DefaultShown.{Show, default-shows}
-use Rattle.linear_cert.proofs.FactsTrue.{AllGood, facts-good, good-true}
 use Rattle.linear_cert.proofs.LinesTrue.{lines-true}
-use Rattle.linear_cert.proofs.PlaceTrue.{declared-true}
 use Rattle.linear_cert.specs.DefaultLines.{default_lines_of}
-use Rattle.linear_cert.specs.Facts.{facts_of}
-use Rattle.linear_cert.specs.Room.{AllNormal, PathKept}
 use Rattle.linear_cert.specs.Shown.{is_shown}
-use Rattle.linear_cert.specs.Truth.{AllTrue, HoldsAtPlace, HoldsWithFacts}
-use Rattle.linear_cert.specs.declared.facts.Facts.{Facts}
 use Rattle.linear_cert.specs.declared.lines.Line.{Line}
 use Rattle.linear_cert.specs.declared.lines.Lines.{Lines}
 use Rattle.linear_cert.specs.declared.lines.Lines.TheVariants.{Default, Given}
-use Rattle.linear_cert.specs.declared.role.Fact.{Fact}
 
 good-normal : (s r : List ℕ) (xs : List Fact) → AllGood s r xs → AllNormal xs
 good-normal s r [] h = tt

@@ -17,8 +17,8 @@ use Rattle.affine_index.proofs.SumValue.{int_eq-zero}
 use Rattle.affine_index.specs.declared.form.Atom.{Atom}
 use Rattle.affine_index.specs.declared.form.Item.{Item}
 use Rattle.affine_index.specs.declared.form.Items.{Items}
-use Rattle.linear_cert.proofs.AtomLaws.{same-self}
-use Rattle.linear_cert.specs.Facts.{same_atoms}
+use Rattle.fact_list.proofs.AtomLaws.{same-self}
+use Rattle.fact_list.specs.Atoms.{same_atoms}
 
 module _ (w : Atom → ℤ) where
   -- the coefficients of items, each times the weight of its atom

@@ -14,14 +14,14 @@ use Rattle.affine_index.specs.declared.form.Atom.TheOpen.{Atom-F, Items-F}
 use Rattle.affine_index.specs.declared.form.Atom.TheFolds.{fold-Atom, fold-Items}
 use Rattle.affine_index.specs.declared.form.Item.{Item}
 use Rattle.affine_index.specs.declared.form.Items.{Items}
-use Rattle.linear_cert.specs.Facts.{same_atoms}
+use Rattle.fact_list.specs.Atoms.{same_atoms}
+use Rattle.fact_list.specs.declared.role.Fact.{Fact}
+use Rattle.fact_list.specs.declared.role.Role.{Role}
+use Rattle.fact_list.specs.declared.role.Role.TheVariants.{Stated, BoundOf, FactorOf, ProductOf}
+use Rattle.fact_list.specs.declared.role.Side.{Side}
+use Rattle.fact_list.specs.declared.role.Side.TheVariants.{Lower, Upper}
 use Rattle.linear_cert.specs.declared.attempt.Attempt.{Attempt}
 use Rattle.linear_cert.specs.declared.lines.Line.{Line}
-use Rattle.linear_cert.specs.declared.role.Fact.{Fact}
-use Rattle.linear_cert.specs.declared.role.Role.{Role}
-use Rattle.linear_cert.specs.declared.role.Role.TheVariants.{Stated, BoundOf, FactorOf, ProductOf}
-use Rattle.linear_cert.specs.declared.role.Side.{Side}
-use Rattle.linear_cert.specs.declared.role.Side.TheVariants.{Lower, Upper}
 
 -- the lesser of two variables, where there are any
 abbrev pub lesser : Option ℕ → Option ℕ → Option ℕ

@@ -1,9 +1,3 @@
 pub mod DefaultLines
-pub mod Facts
-pub mod Joined
 pub mod Room
-pub mod Scoped
 pub mod Shown
-pub mod Sorted
-pub mod Truth
-pub mod Within

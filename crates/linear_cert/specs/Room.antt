@@ -1,31 +1,11 @@
 -- How large an attempt of the procedure can become, and what one step of it is. Only the code's own clauses speak of these.
 use Rattle.std.specs.Prelude.{◌≡◌, ℕ, ◌+◌, ◌*◌, ◌^◌, ◌<◌, ◌≤◌, List, [], ◌∷◌, length, ℤ, pos, ◌+ℤ◌, ◌≤ℤ◌, true}
-use Rattle.affine_index.specs.Condition.{cmp_form}
-use Rattle.affine_index.specs.Normal.{is_normal, is_ordered}
+use Rattle.affine_index.specs.Normal.{is_ordered}
 use Rattle.affine_index.specs.Wide.{norm}
-use Rattle.affine_index.specs.declared.cond.Cmp.{Cmp}
+use Rattle.fact_list.specs.declared.role.Fact.{Fact}
 use Rattle.linear_cert.specs.DefaultLines.{less_fact, limited_attempt, multipliers_fit, replaced}
 use Rattle.linear_cert.specs.declared.attempt.Attempt.{Attempt}
 use Rattle.linear_cert.specs.declared.attempt.Step.{Step}
-use Rattle.linear_cert.specs.declared.facts.PathFact.{PathFact}
-use Rattle.linear_cert.specs.declared.facts.PathFact.TheVariants.{Bound, Holds}
-use Rattle.linear_cert.specs.declared.role.Fact.{Fact}
-
--- facts in normal form
-abbrev pub AllNormal : List Fact → Type 0
-AllNormal [] = Unit {0}
-AllNormal (x ∷ xs) = (is_normal (cmp_form x.cmp) ≡ true) × AllNormal xs
-
--- comparisons of normal forms
-abbrev pub AllKept : List Cmp → Type 0
-AllKept [] = Unit {0}
-AllKept (c ∷ cs) = (is_normal (cmp_form c) ≡ true) × AllKept cs
-
--- a path whose guards compare normal forms
-abbrev pub PathKept : List PathFact → Type 0
-PathKept [] = Unit {0}
-PathKept (Bound n ∷ ps) = PathKept ps
-PathKept (Holds c ∷ ps) = AllKept c.all × PathKept ps
 
 -- each multiplier is at least the negated multiplier of the goal
 abbrev pub AllAbove : ℕ → List ℤ → Type 0

@@ -8,19 +8,14 @@ use Rattle.affine_index.specs.declared.cond.Cmp.TheVariants.{Ge, Eq}
 use Rattle.affine_index.specs.declared.form.Atom.{Atom}
 use Rattle.affine_index.specs.declared.form.Item.{Item}
 use Rattle.affine_index.specs.declared.form.Items.{Items}
+use Rattle.fact_list.specs.Facts.{facts_of}
+use Rattle.fact_list.specs.declared.facts.Facts.{Facts}
+use Rattle.fact_list.specs.declared.role.Fact.{Fact}
 use Rattle.linear_cert.specs.DefaultLines.{default_lines_of}
-use Rattle.linear_cert.specs.Facts.{facts_of}
-use Rattle.linear_cert.specs.declared.facts.Facts.{Facts}
 use Rattle.linear_cert.specs.declared.lines.Line.{Line}
 use Rattle.linear_cert.specs.declared.lines.Lines.{Lines}
 use Rattle.linear_cert.specs.declared.lines.Lines.TheVariants.{Default, Given}
-use Rattle.linear_cert.specs.declared.role.Fact.{Fact}
 use Rattle.std.specs.Option.{is_some, option_map}
-
--- the comparisons of facts
-abbrev pub comparisons : List Fact → List Cmp
-comparisons [] = []
-comparisons (x ∷ xs) = x.cmp ∷ comparisons xs
 
 -- -1 - g, which is at least 0 exactly where g is not
 abbrev pub negated : Items → Items

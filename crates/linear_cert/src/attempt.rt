@@ -6,15 +6,14 @@ ghost use Rattle.std.specs.Int.{IsGcd};
 ghost use Rattle.std.specs.Int.RustNames.{unsigned_abs};
 ghost use Rattle.affine_index.specs.Sum.{difference_of, scaled};
 ghost use Rattle.affine_index.specs.Wide.{norm};
-ghost use Rattle.linear_cert.specs.Room.{AllNormal, Room, StepOf};
+ghost use Rattle.fact_list.specs.Normal.{AllNormal};
+ghost use Rattle.linear_cert.specs.Room.{Room, StepOf};
 ghost use Rattle.linear_cert.specs.DefaultLines.{add_at, all_times, fact_form, less_fact, limited_attempt, multiplier_fits, multipliers_fit, needed, replaced};
 
 use crate::choice::{chosen, chosen_factor, divisor_of, find_fact, side_for};
-use crate::given::form_of;
-use crate::refusal::CertRefusal;
-use crate::role::Fact;
 use affine_index::Aff;
 use affine_index::raw::{Wide, copied, scaled, sum};
+use fact_list::{CertRefusal, Fact, form_of};
 use sqlite_items::Items;
 use std::alloc::Global;
 

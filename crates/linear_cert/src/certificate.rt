@@ -1,51 +1,20 @@
-//! The facts of a goal, and whether lines show it.
-#![tactic(auto, using(crate::proofs::CertificateLaws::certificate_laws))]
+//! Whether lines show a goal, and the lines that do.
 
-ghost use Rattle.std.specs.Prelude.{true, ◌≡◌, ◌≤◌, ◌++◌, ◌∷◌, [], length, IfOk, IfSome, IsTrue, OnOk};
+ghost use Rattle.std.specs.Prelude.{true, ◌≡◌, ◌≤◌, length, IfOk, IfSome, IsTrue};
 ghost use Rattle.std.specs.Option.{option_map};
+ghost use Rattle.fact_list.specs.Facts.{facts_of, moves_fit};
+ghost use Rattle.fact_list.specs.Truth.{HoldsAtPlace, HoldsWithFacts};
 ghost use Rattle.linear_cert.specs.DefaultLines.{default_lines_of};
-ghost use Rattle.linear_cert.specs.Facts.{facts_of, moves_fit};
-ghost use Rattle.linear_cert.specs.Shown.{comparisons, is_shown};
-ghost use Rattle.linear_cert.specs.Truth.{HoldsAtPlace, HoldsWithFacts};
+ghost use Rattle.linear_cert.specs.Shown.{is_shown};
 ghost use Rattle.linear_cert.specs.declared.lines.Lines.TheVariants.{Given};
 
-use crate::facts::Facts;
-use crate::forms::copied_cmp;
 use crate::given::lines_show;
 use crate::lines::Lines;
-use crate::list::facts_of;
 use crate::procedure::default_lines_of;
-use crate::refusal::CertRefusal;
-use crate::role::Fact;
-use crate::told::{told, told_path};
-use affine_index::{Aff, Cmp};
-use sqlite_items::Items;
+use affine_index::Aff;
+use fact_list::told::{told, told_path};
+use fact_list::{CertRefusal, Facts, facts_of};
 use std::alloc::Global;
-
-fn comparisons(alloc: Global, facts: &[Fact]) -> Result<Items<Cmp>, CertRefusal>
-    ensures { IfOk result (λ list. list ≡ comparisons facts.now) }
-{
-    let mut list = Items::new(alloc);
-    for fact in facts {
-        let cmp = copied_cmp(alloc, &fact.cmp)?;
-        list.push(cmp)?;
-    }
-    Ok(list)
-}
-
-impl Facts {
-    /// The facts of a goal, of which the first has number 1: the bounds of the sizes, the assumes, the facts of the path, and what the quotients and products in them and in the goal add.
-    /// A fact that breaks a limit of forms is left out, and there are at most 2,000. Variables are numbered at the end of the path.
-    pub fn list(&self, alloc: Global, goal: &Aff) -> Result<Items<Cmp>, CertRefusal>
-        requires sizes { length self.now.sizes ≤ 2147483647 }
-        requires path { length self.now.path ≤ 2147483647 }
-        requires fit { IsTrue (moves_fit self.now.path) }
-        ensures { IfOk result (λ list. list ≡ comparisons (facts_of self.now goal.now)) }
-    {
-        let list = facts_of(alloc, self, goal)?;
-        comparisons(alloc, list.as_slice())
-    }
-}
 
 /// Whether lines show that a goal is at least 0.
 pub fn shown(alloc: Global, facts: &Facts, goal: &Aff, lines: &Lines) -> Result<bool, CertRefusal>

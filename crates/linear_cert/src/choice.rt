@@ -7,11 +7,10 @@ ghost use Rattle.std.specs.Option.{is_some, option_and_then, option_copied};
 ghost use Rattle.affine_index.specs.declared.form.Atom.{out-Atom};
 ghost use Rattle.linear_cert.specs.DefaultLines.{atom_least, chosen_factor, chosen_item, chosen_of, divisor_of, find_role, layer_is_quotient, role_for, same_role, same_side, same_var, side_for};
 
-use crate::atoms::same_atoms;
 use crate::least::{atom_least, form_least};
-use crate::role::{Fact, Role, Side};
 use affine_index::Atom;
 use affine_index::raw::Wide;
+use fact_list::{Fact, Role, Side, same_atoms};
 
 fn same_var(v: Option<u32>, w: Option<u32>) -> bool
     ensures { result ≡ same_var v w }

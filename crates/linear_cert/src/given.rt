@@ -2,19 +2,15 @@
 #![tactic(auto, using(crate::proofs::LineLaws::line_laws))]
 
 ghost use Rattle.std.specs.Prelude.{true, ◌≡◌, ◌+◌, ◌*◌, ◌^◌, ◌<◌, ◌≤◌, length, IfOk, IsTrue};
-ghost use Rattle.affine_index.specs.Condition.{cmp_form};
-ghost use Rattle.affine_index.specs.Normal.{is_normal};
 ghost use Rattle.affine_index.specs.Sum.{scaled, sum_of};
 ghost use Rattle.affine_index.specs.Wide.{norm};
 ghost use Rattle.affine_index.specs.declared.form.Items.{Items};
 ghost use Rattle.linear_cert.specs.Shown.{first_total, form_or_zero, is_negative_constant, line_sum, lines_good, lines_show, may_take, may_take_some, names_fact, negated, numbered};
 
-use crate::atoms::number;
 use crate::lines::Line;
-use crate::refusal::CertRefusal;
-use crate::role::Fact;
 use affine_index::raw::{Wide, copied, scaled, sum};
 use affine_index::{Aff, Cmp};
+use fact_list::{CertRefusal, Fact, form_of, number};
 use std::alloc::Global;
 
 fn names_fact(number: u32, lines: &[Line]) -> bool
@@ -62,19 +58,6 @@ fn lines_good(facts: &[Fact], lines: &[Line]) -> bool
         }
     }
     true
-}
-
-/// The form of a comparison.
-pub fn form_of(cmp: &Cmp) -> &Aff
-    ensures form { result.now ≡ cmp_form cmp.now }
-    ensures normal { is_normal result.now ≡ true }
-{
-    let form = match cmp {
-        Cmp::Ge(form) => form,
-        Cmp::Eq(form) => form,
-    };
-    form.told();
-    form
 }
 
 /// The negated goal, which may break the limits.

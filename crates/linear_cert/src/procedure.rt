@@ -4,16 +4,16 @@
 ghost use Rattle.std.specs.Prelude.{true, ◌≡◌, ◌+◌, ◌^◌, ◌<◌, ◌≤◌, ◌++◌, length, get_or, IfOk, IsTrue, Option, None};
 ghost use Rattle.std.specs.Int.RustNames.{unsigned_abs};
 ghost use Rattle.affine_index.specs.Sum.{difference_of, scaled};
-ghost use Rattle.linear_cert.specs.Room.{AllNormal, Room};
+ghost use Rattle.fact_list.specs.Normal.{AllNormal};
+ghost use Rattle.linear_cert.specs.Room.{Room};
 ghost use Rattle.linear_cert.specs.DefaultLines.{attempt_lines, attempt_with, attempts_of_cmp, attempts_of_role, carried_on, default_lines_of, finished, first_attempt, first_lines, lines_from, no_times};
 
 use crate::attempt::{Attempt, replaced};
 use crate::lines::Line;
-use crate::refusal::CertRefusal;
-use crate::role::{Fact, Role};
-use crate::told::told;
 use affine_index::raw::{Wide, copied, scaled, sum};
 use affine_index::{Aff, Cmp};
+use fact_list::told::told;
+use fact_list::{CertRefusal, Fact, Role};
 use sqlite_items::Items;
 use std::alloc::Global;
 

@@ -7,8 +7,8 @@ use Rattle.std.proofs.lemmas.Int.{ints}
 use Rattle.affine_index.specs.Condition.{at_least_zero}
 use Rattle.affine_index.specs.Normal.{is_normal}
 use Rattle.affine_index.specs.Value.{items_value}
-use Rattle.linear_cert.specs.Truth.{FactsHold, SizesWithin}
-use Rattle.linear_cert.specs.declared.facts.SizeBounds.{SizeBounds}
+use Rattle.fact_list.specs.Truth.{FactsHold, SizesWithin}
+use Rattle.fact_list.specs.declared.facts.SizeBounds.{SizeBounds}
 use Rattle.linear_cert.specs.declared.lines.Lines.TheVariants.{Default}
 use Rattle.linear_cert.proofs.ShownTrue.{shown-at-place}
 use Rattle.term_tree.specs.declared.term.Module.{Module}

@@ -2,8 +2,8 @@
 use Rattle.std.specs.Prelude.{◌≡◌, List, [], ◌∷◌, map, Bool, true, ◌&&◌}
 use Rattle.affine_index.specs.Normal.{is_normal}
 use Rattle.affine_index.specs.declared.form.Items.{Items}
+use Rattle.fact_list.specs.declared.facts.Facts.{Facts}
 use Rattle.linear_cert.specs.Shown.{is_shown}
-use Rattle.linear_cert.specs.declared.facts.Facts.{Facts}
 use Rattle.linear_cert.specs.declared.lines.Lines.TheVariants.{Default}
 use Rattle.term_tree.specs.declared.term.Module.{Module}
 use Rattle.term_tree.specs.Modules.{IsSound}

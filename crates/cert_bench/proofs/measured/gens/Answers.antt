@@ -1,5 +1,5 @@
 use Rattle.std.proofs.Common.{rules, ◌≡◌, [], ◌∷◌, ◌++◌, sym, subst}
-use Rattle.linear_cert.specs.declared.facts.PathFact.TheVariants.{Bound}
+use Rattle.fact_list.specs.declared.facts.PathFact.TheVariants.{Bound}
 use Rattle.cert_bench.proofs.Paths.{GensAlone, gens-fit, gens-more}
 use Rattle.cert_bench.proofs.measured.gens.Goals as goal
 

@@ -1,9 +1,9 @@
 use Rattle.std.proofs.Common.{◌∙◌, ap, sym, arith}
 use Rattle.affine_index.specs.Condition.{cmp_form}
 use Rattle.affine_index.specs.Wide.{norm}
+use Rattle.fact_list.specs.declared.role.Fact.{Fact}
 use Rattle.linear_cert.proofs.RoomLaws.{after-is, after-room, fact_form-at, left-small}
 use Rattle.linear_cert.specs.DefaultLines.{multipliers_fit}
-use Rattle.linear_cert.specs.declared.role.Fact.{Fact}
 use Rattle.linear_cert.proofs.attempt.after_step.Goals as goal
 
 pub less-requires-clause-room : goal.less-requires-clause-room

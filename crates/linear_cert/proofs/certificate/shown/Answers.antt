@@ -1,8 +1,8 @@
 use Rattle.std.proofs.Common.{◌∙◌, ap, sym, subst}
 use Rattle.std.specs.Option.{is_some}
+use Rattle.fact_list.specs.Normal.{PathKept}
 use Rattle.linear_cert.proofs.ShownTrue.{shown-at-place, shown-true}
 use Rattle.linear_cert.specs.DefaultLines.{default_lines_of}
-use Rattle.linear_cert.specs.Room.{PathKept}
 use Rattle.linear_cert.specs.Shown.{is_shown, lines_show}
 use Rattle.linear_cert.proofs.certificate.shown.Goals as goal
 

@@ -1,6 +1,6 @@
 use Rattle.std.proofs.Common.{◌≡◌, ◌∙◌, ℕ, suc, ◌+◌, ◌-◌, List, [], Option, Some, None, IfOk, ap, sym, subst, arith, length}
 use Rattle.std.specs.Prelude.{IfSome}
-use Rattle.linear_cert.proofs.Appending.{no-length}
+use Rattle.fact_list.proofs.Appending.{no-length}
 use Rattle.linear_cert.proofs.ProcedureLaws.{carried-done, carried-end, carried-next}
 use Rattle.linear_cert.specs.Room.{Room}
 use Rattle.linear_cert.specs.declared.attempt.Attempt.{Attempt}

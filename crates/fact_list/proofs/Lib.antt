@@ -1,0 +1,16 @@
+pub mod AddLaws
+pub mod Appending
+pub mod AtomLaws
+pub mod CodeLaws
+pub mod DeclaredLaws
+pub mod FactsTrue
+pub mod ListLaws
+pub mod NotNegative
+pub mod OrderedAtoms
+pub mod OthersLaws
+pub mod PartsOrdered
+pub mod PlaceTrue
+pub mod ScopedLaws
+pub mod ToldLaws
+pub mod WalkLaws
+pub mod WithinLaws

@@ -1,7 +1,0 @@
-use Rattle.std.proofs.Common.{◌≡◌, ◌++◌, drop}
-use Rattle.linear_cert.specs.Facts.{limit_products}
-use Rattle.linear_cert.proofs.adding.limit_products.Given as goal
-
-abbrev pub invariant-loop-limit : goal.invariant-loop-limit
-invariant-loop-limit l =
-    l.facts ++ limit_products l.whole l.factor l.others (drop l.limit-index l.limits) ≡ l.fn.facts ++ limit_products l.whole l.factor l.others l.limits

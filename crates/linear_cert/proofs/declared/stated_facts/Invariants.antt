@@ -1,6 +1,0 @@
-use Rattle.std.proofs.Common.{◌≡◌, ◌++◌, drop}
-use Rattle.linear_cert.specs.Facts.{stated_facts}
-use Rattle.linear_cert.proofs.declared.stated_facts.Given as goal
-
-abbrev pub invariant-loop-cmp : goal.invariant-loop-cmp
-invariant-loop-cmp l = l.list ++ stated_facts (drop l.cmp-index l.cmps) ≡ l.fn.list ++ stated_facts l.cmps

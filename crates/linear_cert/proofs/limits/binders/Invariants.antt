@@ -1,9 +1,0 @@
-use Rattle.std.proofs.Common.{◌≡◌, ◌+◌, ◌≤◌, drop}
-use Rattle.linear_cert.specs.Facts.{binders}
-use Rattle.linear_cert.proofs.limits.binders.Given as goal
-
-abbrev pub invariant-loop-fact : goal.invariant-loop-fact
-invariant-loop-fact l = record {
-  few : l.count ≤ l.fact-index;
-  rest : l.count + binders (drop l.fact-index l.path) ≡ binders l.path;
-}
