@@ -1,5 +1,6 @@
 pub mod CodeLaws
 pub mod DenotedLaws
+pub mod FormBounds
 pub mod FormScopes
 pub mod ListLaws
 pub mod ModuleLaws

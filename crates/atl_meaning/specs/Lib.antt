@@ -1,5 +1,6 @@
 pub mod Answers
 pub mod Denoted
+pub mod Exact
 pub mod Forms
 pub mod Lists
 pub mod Operations
