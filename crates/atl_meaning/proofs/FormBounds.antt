@@ -1,4 +1,4 @@
--- Where the magnitude is small, the value is computed without passing 2^120, and is within the magnitude.
+-- Where the magnitude is small, the value is computed without passing 2^120.
 use Rattle.std.proofs.Common.{◌≡◌, ℕ, ◌+◌, ◌*◌, ◌^◌, ◌<◌, ◌≤◌, List, [], ◌∷◌, length, map, refl, ap, sym, ◌∙◌, arith, true, false, Option, Some}
 use Rattle.std.specs.Prelude.{ℤ, pos, ◌+ℤ◌, ◌*ℤ◌, slice_index}
 use Rattle.std.specs.Option.{option_and_then}
@@ -26,6 +26,7 @@ use Rattle.affine_index.specs.declared.form.Atom.{Atom}
 use Rattle.affine_index.specs.declared.form.Atom.TheVariants.{Size, Var, Div, Mul}
 use Rattle.affine_index.specs.declared.form.Item.{Item}
 use Rattle.affine_index.specs.declared.form.Items.{Items}
+use Rattle.atl_meaning.proofs.MagnitudeBounds.{form-most}
 
 limited-is : (z : ℤ) → unsigned_abs z < 2 ^ 120 → limited z ≡ Some z
 limited-is z h = grind arith
@@ -60,7 +61,7 @@ alone b m h = grind arith
 nonzero : (c : ℤ) → int_eq c (pos 0) ≡ false → 1 ≤ unsigned_abs c
 nonzero c e = grind (arith, ints)
 
--- below the limit of a value, and above each magnitude that is not large
+-- a limit of magnitudes, below that of values
 module _ (limit : ℕ) (small : limit < 2 ^ 120) (s v maxima most : List ℕ) (ws : WithinMaxima s maxima) (wv : WithinMaxima v most) where
   abbrev Scoped : Atom → Type 0
   Scoped a = atom_scoped (length maxima) (length most) a ≡ true
@@ -69,8 +70,7 @@ module _ (limit : ℕ) (small : limit < 2 ^ 120) (s v maxima most : List ℕ) (w
   AtomFits a = Ordered a → Scoped a → (c : ℤ) (b : ℕ) → 1 ≤ b → unsigned_abs c ≤ b → b * atom_magnitude maxima most a ≤ limit → times s v a c ≡ Some (c *ℤ atom_value s v a)
 
   abbrev FormFits : Items → Type 0
-  FormFits i = is_ordered i ≡ true → items_scoped (length maxima) (length most) i ≡ true → magnitude maxima most i ≤ limit
-      → (limited_value s v i ≡ Some (items_value s v i)) × (unsigned_abs (items_value s v i) ≤ magnitude maxima most i)
+  FormFits i = is_ordered i ≡ true → items_scoped (length maxima) (length most) i ≡ true → magnitude maxima most i ≤ limit → limited_value s v i ≡ Some (items_value s v i)
 
   up : (a : Atom) → Ordered a → Scoped a → UpTo (atom_value s v a) (atom_magnitude maxima most a)
   up = atom_up s v maxima most ws wv
@@ -88,7 +88,7 @@ module _ (limit : ℕ) (small : limit < 2 ^ 120) (s v maxima most : List ℕ) (w
   div_fits i k h o g c b one p q =
       let inside : magnitude maxima most i ≤ limit = omega (arith, alone b (atom_magnitude maxima most (Div i k)) one, q, mag-Div maxima most i k) in
       times-Div s v i k c
-      ∙ ap (option_and_then (λ w. limited (c *ℤ int_div_euclid w (pos k)))) (h (ordered-Div i k o).1 (sym (scoped-Div (length maxima) (length most) i k) ∙ g) inside).0
+      ∙ ap (option_and_then (λ w. limited (c *ℤ int_div_euclid w (pos k)))) (h (ordered-Div i k o).1 (sym (scoped-Div (length maxima) (length most) i k) ∙ g) inside)
       ∙ ap (λ x. limited (c *ℤ x)) (sym (value-Div s v i k)) ∙ plain (Div i k) c b o g p q
 
   abbrev ScopedAll : List Atom → Type 0
@@ -158,12 +158,6 @@ module _ (limit : ℕ) (small : limit < 2 ^ 120) (s v maxima most : List ℕ) (w
       ∙ added-fits ts (total +ℤ x) h.1 o.1 gs.1 (omega (arith, sum, size, q))
       ∙ ap Some (again total x (terms_value s v ts))
 
-  terms-most : (ts : List (Item Atom)) → EachItem GoodItem ts → ScopedTerms ts → unsigned_abs (terms_value s v ts) ≤ terms_magnitude maxima most ts
-  terms-most [] o g = omega arith
-  terms-most (t ∷ ts) o g =
-      let gs = and_parts (atom_scoped (length maxima) (length most) t.atom) (all_firsts (map (scoped_term (length maxima) (length most)) ts)) g in
-      omega (arith, abs-sum (item t) (terms_value s v ts), item-most t o.0.0 gs.0, terms-most ts o.1 gs.1)
-
   swap : (a b : ℤ) → a +ℤ b ≡ b +ℤ a
   swap a b = omega (arith, ints)
 
@@ -173,15 +167,13 @@ module _ (limit : ℕ) (small : limit < 2 ^ 120) (s v maxima most : List ℕ) (w
       let goods = (ordered-terms i o).1 in
       let sc = sym (scoped-items (length maxima) (length most) i) ∙ g in
       let x = terms_value s v ts in
-      let most-x = terms-most ts goods sc in
       let room : terms_magnitude maxima most ts + unsigned_abs c ≤ limit = omega (arith, mag-items maxima most i, q) in
       let start : pos 0 +ℤ x ≡ x = omega (arith, ints) in
       let value : items_value s v i ≡ x +ℤ c = items_value-is s v i in
-      let bound : unsigned_abs (x +ℤ c) ≤ terms_magnitude maxima most ts + unsigned_abs c = omega (arith, abs-sum x c, most-x) in
-      (value-items s v i
+      let bound = form-most s v maxima most ws wv i g in
+      value-items s v i
       ∙ ap (plus c) (added-fits ts (pos 0) h goods sc (omega (arith, room)) ∙ ap Some start)
-      ∙ ap limited (swap c x) ∙ limited-is (x +ℤ c) (omega (arith, bound, room, small)) ∙ ap Some (sym value),
-      omega (arith, ap unsigned_abs value, bound, mag-items maxima most i))
+      ∙ ap limited (swap c x ∙ sym value) ∙ limited-is (items_value s v i) (omega (arith, bound, q, small))
 
   pub form-fits : (i : Items) → FormFits i
   form-fits = for_items AtomFits FormFits size_fits var_fits div_fits mul_fits form_fits

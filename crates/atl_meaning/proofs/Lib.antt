@@ -1,8 +1,10 @@
 pub mod CodeLaws
 pub mod DenotedLaws
+pub mod ExactLaws
 pub mod FormBounds
 pub mod FormScopes
 pub mod ListLaws
+pub mod MagnitudeBounds
 pub mod ModuleLaws
 pub mod PlaceLaws
 pub mod ScopeLaws

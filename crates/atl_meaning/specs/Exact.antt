@@ -31,7 +31,7 @@ module _ (s : List ℕ) where
 
   -- an extent or amount is computed so, and below 2^63
   abbrev pub is_counted : Items → Bool
-  is_counted n = is_exact [] n && (not (is_normal n) || nat_lt (extent n s) (2 ^ 63))
+  is_counted n = is_exact [] n && nat_lt (extent n s) (2 ^ 63)
 
   -- the same of all extents
   abbrev pub all_counted : Extents → Bool
