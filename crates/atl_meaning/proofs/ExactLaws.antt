@@ -1,8 +1,8 @@
 -- Forms that are not large are exact at values within the maxima.
-use Rattle.std.proofs.Common.{◌≡◌, ℕ, zero, suc, ◌-◌, ◌^◌, ◌<◌, ◌≤◌, List, [], ◌∷◌, length, Bool, true, false, ◌&&◌, ◌||◌, not, nat_le, nat_lt, max, min, Option, Some, None, refl, ap, sym, ◌∙◌, subst, arith, if◌then◌else◌}
+use Rattle.std.proofs.Common.{◌≡◌, ℕ, zero, suc, ◌-◌, ◌^◌, ◌<◌, ◌≤◌, List, [], ◌∷◌, length, Bool, true, false, ◌||◌, not, nat_le, nat_lt, max, Option, Some, None, refl, ap, sym, ◌∙◌, subst, arith, if◌then◌else◌}
 use Rattle.std.specs.Prelude.{ℤ, pos, negsuc, is_some}
 use Rattle.std.specs.Int.RustNames.{unsigned_abs}
-use Rattle.std.proofs.lemmas.Bool.{and_from, and_parts, or_parts}
+use Rattle.std.proofs.lemmas.Bool.{and_from, and_parts, or_parts, true≢false}
 use Rattle.std.proofs.lemmas.Bool.Decides.{nat_tests}
 use Rattle.std.proofs.lemmas.List.{length-map}
 use Rattle.affine_index.specs.Condition.{all_scoped, cmp_form}
@@ -19,14 +19,13 @@ use Rattle.term_tree.specs.Shape.{Extents}
 use Rattle.term_tree.specs.declared.term.InputDecl.{InputDecl}
 use Rattle.term_tree.specs.Modules.{inputs_scoped}
 use Rattle.atl_meaning.specs.Exact.{all_below, all_counted, all_exact, inputs_counted, is_counted, is_exact}
-use Rattle.atl_meaning.specs.Surveyed.{found_at}
 use Rattle.atl_meaning.specs.Words.{any_large, any_large_comparison, at_least_one, first_big_input, first_of, is_large, largest_index, too_big, words_at, words_of}
 use Rattle.atl_meaning.proofs.FormBounds.{form-fits}
 use Rattle.atl_meaning.proofs.MagnitudeBounds.{form-most}
 
 pub below-at : (n : ℕ) (f : ℕ → Bool) (i : ℕ) → all_below n f ≡ true → i < n → f i ≡ true
 below-at zero f i h l = absurd (omega (arith, l))
-below-at (suc n) f i h l = by (nat_lt i n) refl
+below-at (suc n) f i h l = by (nat_lt i n) refl (below-at n f i (and_parts (all_below n f) (f n) h).0)
   where
     lt_of : (a b : ℕ) → nat_lt a b ≡ true → a < b
     lt_of a b h = grind (arith, nat_tests)
@@ -34,9 +33,9 @@ below-at (suc n) f i h l = by (nat_lt i n) refl
     last : (a b : ℕ) → nat_lt a b ≡ false → a < suc b → b ≡ a
     last a b h l = grind (arith, nat_tests)
 
-    by : (b : Bool) → nat_lt i n ≡ b → f i ≡ true
-    by true e = below-at n f i (and_parts (all_below n f) (f n) h).0 (lt_of i n e)
-    by false e = subst (λ (k : ℕ). f k ≡ true) (last i n e l) (and_parts (all_below n f) (f n) h).1
+    by : (b : Bool) → nat_lt i n ≡ b → (i < n → f i ≡ true) → f i ≡ true
+    by true e earlier = earlier (lt_of i n e)
+    by false e earlier = subst (λ (k : ℕ). f k ≡ true) (last i n e l) (and_parts (all_below n f) (f n) h).1
 
 pub below-all : (n : ℕ) (f : ℕ → Bool) → ((i : ℕ) → i < n → f i ≡ true) → all_below n f ≡ true
 below-all zero f h = refl
@@ -115,7 +114,7 @@ module _ (s : List ℕ) where
       and_from (is_counted s n) (all_counted s ns) (counted-of n p.0 q.0) (all-counted-of ns p.1 q.1)
 
   large-words : (b : Bool) (ns : List ℕ) → nat_lt (2 ^ 24) (if b then 2 ^ 64 - 1 else words_of ns) ≡ false → b ≡ false
-  large-words true ns h = absurd (omega arith)
+  large-words true ns h = absurd (true≢false h)
   large-words false ns h = refl
 
   none-by : (b : Bool) (w : ℕ) (later : Option ℕ) → (if b then Some w else later) ≡ None → (b ≡ false) × (later ≡ None)
@@ -138,4 +137,4 @@ module _ (s : List ℕ) where
   inputs-counted-of (d ∷ ds) g h =
       let p = and_parts (extents_scoped (length s) d.extents) (inputs_scoped (length s) ds) g in
       let q = none-at d.extents false (first_big_input ds s) h in
-      and_from (all_counted s d.extents) (inputs_counted s ds) (all-counted-of d.extents p.0 q.1.0) (inputs-counted-of ds p.1 q.1.1)
+      and_from (all_counted s d.extents) (inputs_counted s ds) (all-counted-of d.extents p.0 q.1) (inputs-counted-of ds p.1 q.2)

@@ -10,6 +10,7 @@ pub mod PlaceLaws
 pub mod ScopeLaws
 pub mod ScopeLists
 pub mod SurveyCode
+pub mod SurveyExact
 pub mod SurveyLaws
 pub mod TileLaws
 pub mod TurnFold

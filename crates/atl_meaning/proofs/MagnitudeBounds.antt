@@ -1,5 +1,5 @@
 -- At values within the maxima the value of a form is within its magnitude.
-use Rattle.std.proofs.Common.{◌≡◌, ℕ, suc, ◌+◌, ◌*◌, ◌/◌, ◌<◌, ◌≤◌, List, [], ◌∷◌, length, map, ap, arith, sym, ◌∙◌, true, nat_lt}
+use Rattle.std.proofs.Common.{◌≡◌, ℕ, ◌+◌, ◌*◌, ◌<◌, ◌≤◌, List, [], ◌∷◌, length, map, ap, arith, sym, ◌∙◌, true, nat_lt}
 use Rattle.std.specs.Prelude.{ℤ, pos, negsuc, ◌+ℤ◌, ◌*ℤ◌, slice_index}
 use Rattle.std.specs.Int.{int_div_euclid}
 use Rattle.std.specs.Int.RustNames.{unsigned_abs}
@@ -75,8 +75,12 @@ module _ (s v maxima most : List ℕ) (ws : WithinMaxima s maxima) (wv : WithinM
   terms-most [] h g = omega arith
   terms-most (t ∷ ts) h g =
       let gs = and_parts (atom_scoped (length maxima) (length most) t.atom) (all_firsts (map (scoped_term (length maxima) (length most)) ts)) g in
-      omega (arith, abs-sum (t.coefficient *ℤ atom_value s v t.atom) (terms_value s v ts),
-      product-most t.coefficient (atom_value s v t.atom) (unsigned_abs t.coefficient) (atom_magnitude maxima most t.atom) (omega arith) (h.0 gs.0), terms-most ts h.1 gs.1)
+      omega (
+        arith,
+        abs-sum (t.coefficient *ℤ atom_value s v t.atom) (terms_value s v ts),
+        product-most t.coefficient (atom_value s v t.atom) (unsigned_abs t.coefficient) (atom_magnitude maxima most t.atom) (omega arith) (h.0 gs.0),
+        terms-most ts h.1 gs.1,
+      )
 
   form_most : (ts : List (Item Atom)) (c : ℤ) → EachTerm AtomMost ts → FormMost (record { terms = ts; constant = c })
   form_most ts c h g =

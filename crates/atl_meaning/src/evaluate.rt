@@ -1,15 +1,14 @@
 //! The tensor that a term denotes.
 #![tactic(auto, using(crate::proofs::ValueLaws::meant_laws))]
 
-ghost use Rattle.std.specs.Prelude.{◌≡◌, ◌+◌, ◌-◌, ◌/◌, ◌<◌, ◌∷◌, ◌++◌, length, true, drop, map, IfOk, IsTrue, OnOk, if◌then◌else◌};
-ghost use Rattle.affine_index.specs.Condition.{all_hold, all_scoped};
-ghost use Rattle.affine_index.specs.Limited.{items_scoped};
+ghost use Rattle.std.specs.Prelude.{◌≡◌, ◌+◌, ◌-◌, ◌/◌, ◌<◌, ◌∷◌, ◌++◌, true, drop, map, IfOk, IsTrue, OnOk, if◌then◌else◌};
+ghost use Rattle.affine_index.specs.Condition.{all_hold};
 ghost use Rattle.affine_index.specs.Value.{items_value};
 ghost use Rattle.term_tree.specs.Tensors.{Word, by_places, copies, drop_last, from_rows, joined, rows_of, tabulate, total, zeros};
 ghost use Rattle.term_tree.specs.Meaning.{chunks, columns, extent, head_of, row_at, tail_of, word_of};
 ghost use Rattle.atl_meaning.specs.Denoted.{body_in, extents_in, tensor_in};
 ghost use Rattle.atl_meaning.specs.Operations.{on_words};
-ghost use Rattle.atl_meaning.specs.Scopes.{placed, sized};
+ghost use Rattle.atl_meaning.specs.Exact.{all_exact, counted, exact, exact_below, is_counted, is_exact};
 ghost use Rattle.atl_meaning.specs.Values.{meant};
 
 use crate::binding::Binding;
@@ -33,11 +32,11 @@ use std::alloc::Global;
 use term_tree::Term;
 
 /// The word of an index.
-fn word_at(index: &Aff, sizes: &[u64], vars: &[u64]) -> Result<Tensor, MeaningFault>
-    requires { IsTrue (items_scoped (length sizes.now) (length vars.now) index.now) }
-    ensures { IfOk result (λ v. meant v ≡ Word (word_of (items_value sizes.now vars.now index.now))) }
+fn word_at(index: &Aff, sizes: &[u64], vars: &[u64]) -> Tensor
+    requires { IsTrue (is_exact sizes.now vars.now index.now) }
+    ensures { meant result ≡ Word (word_of (items_value sizes.now vars.now index.now)) }
 {
-    Ok(Tensor::Word(word(value(index, sizes, vars)?)))
+    Tensor::Word(word(value(index, sizes, vars)))
 }
 
 /// Zeros of the extents of a term.
@@ -47,7 +46,7 @@ fn zeros_like(
     bindings: &mut Stack<Binding>,
     term: &Term,
 ) -> Result<Tensor, MeaningFault>
-    requires { sized (length sizes.now) term.now ≡ true }
+    requires { counted sizes.now term.now ≡ true }
     ensures value { IfOk result (λ v. meant v ≡ zeros (extents_in sizes.now term.now bindings.old)) }
     ensures bindings { OnOk result (bindings.new ≡ bindings.old) }
 {
@@ -62,7 +61,7 @@ fn zero_row(
     bindings: &mut Stack<Binding>,
     term: &Term,
 ) -> Result<Tensor, MeaningFault>
-    requires { sized (length sizes.now) term.now ≡ true }
+    requires { counted sizes.now term.now ≡ true }
     ensures value { IfOk result (λ v. meant v ≡ zeros (tail_of (extents_in sizes.now term.now bindings.old))) }
     ensures bindings { OnOk result (bindings.new ≡ bindings.old) }
 {
@@ -79,7 +78,7 @@ fn row_or_zeros(
     tensor: &Tensor,
     number: i128,
 ) -> Result<Tensor, MeaningFault>
-    requires { sized (length sizes.now) term.now ≡ true }
+    requires { counted sizes.now term.now ≡ true }
     ensures value { IfOk result (λ v. meant v ≡ row_at (rows_of (meant tensor.now)) number (zeros (tail_of (extents_in sizes.now term.now bindings.old)))) }
     ensures bindings { OnOk result (bindings.new ≡ bindings.old) }
 {
@@ -98,7 +97,7 @@ fn chunked(
     term: &Term,
     tensor: &Tensor,
 ) -> Result<Tensor, MeaningFault>
-    requires sized { sized (length sizes.now) term.now ≡ true }
+    requires counted { counted sizes.now term.now ≡ true }
     requires positive { 0 < k }
     ensures value { IfOk result (λ v. meant v ≡ from_rows (chunks ((head_of (extents_in sizes.now term.now bindings.old) + k - 1) / k) k (zeros (tail_of (extents_in sizes.now term.now bindings.old))) (rows_of (meant tensor.now)))) }
     ensures bindings { OnOk result (bindings.new ≡ bindings.old) }
@@ -122,7 +121,7 @@ fn transposed(
     term: &Term,
     tensor: &Tensor,
 ) -> Result<Tensor, MeaningFault>
-    requires { sized (length sizes.now) term.now ≡ true }
+    requires { counted sizes.now term.now ≡ true }
     ensures value { IfOk result (λ v. meant v ≡ from_rows (columns (head_of (tail_of (extents_in sizes.now term.now bindings.old))) (zeros (tail_of (tail_of (extents_in sizes.now term.now bindings.old)))) (rows_of (meant tensor.now)))) }
     ensures bindings { OnOk result (bindings.new ≡ bindings.old) }
 {
@@ -138,10 +137,10 @@ fn shortened_first(
     count: &Aff,
     tensor: &Tensor,
 ) -> Result<Tensor, MeaningFault>
-    requires { IsTrue (items_scoped (length sizes.now) 0 count.now) }
+    requires { IsTrue (is_counted sizes.now count.now) }
     ensures { IfOk result (λ v. meant v ≡ from_rows (drop (extent count.now sizes.now) (rows_of (meant tensor.now)))) }
 {
-    Ok(without_first(alloc, extent(count, sizes)?, tensor)?)
+    Ok(without_first(alloc, extent(count, sizes), tensor)?)
 }
 
 /// All but the last rows.
@@ -151,10 +150,10 @@ fn shortened_last(
     count: &Aff,
     tensor: &Tensor,
 ) -> Result<Tensor, MeaningFault>
-    requires { IsTrue (items_scoped (length sizes.now) 0 count.now) }
+    requires { IsTrue (is_counted sizes.now count.now) }
     ensures { IfOk result (λ v. meant v ≡ from_rows (drop_last (extent count.now sizes.now) (rows_of (meant tensor.now)))) }
 {
-    Ok(without_last(alloc, extent(count, sizes)?, tensor)?)
+    Ok(without_last(alloc, extent(count, sizes), tensor)?)
 }
 
 /// Zero rows before the tensor of a term.
@@ -166,15 +165,15 @@ fn padded_before(
     term: &Term,
     tensor: Tensor,
 ) -> Result<Tensor, MeaningFault>
-    requires count { IsTrue (items_scoped (length sizes.now) 0 count.now) }
-    requires sized { sized (length sizes.now) term.now ≡ true }
+    requires count { IsTrue (is_counted sizes.now count.now) }
+    requires counted { counted sizes.now term.now ≡ true }
     ensures value { IfOk result (λ v. meant v ≡ from_rows (copies (extent count.now sizes.now) (zeros (tail_of (extents_in sizes.now term.now bindings.old))) ++ rows_of (meant tensor))) }
     ensures bindings { OnOk result (bindings.new ≡ bindings.old) }
 {
     let found = extents(alloc, sizes, bindings, term)?;
     Ok(zeros_before(
         alloc,
-        extent(count, sizes)?,
+        extent(count, sizes),
         tail_of(found.as_slice()),
         tensor,
     )?)
@@ -189,15 +188,15 @@ fn padded_behind(
     term: &Term,
     tensor: Tensor,
 ) -> Result<Tensor, MeaningFault>
-    requires count { IsTrue (items_scoped (length sizes.now) 0 count.now) }
-    requires sized { sized (length sizes.now) term.now ≡ true }
+    requires count { IsTrue (is_counted sizes.now count.now) }
+    requires counted { counted sizes.now term.now ≡ true }
     ensures value { IfOk result (λ v. meant v ≡ from_rows (rows_of (meant tensor) ++ copies (extent count.now sizes.now) (zeros (tail_of (extents_in sizes.now term.now bindings.old))))) }
     ensures bindings { OnOk result (bindings.new ≡ bindings.old) }
 {
     let found = extents(alloc, sizes, bindings, term)?;
     Ok(zeros_behind(
         alloc,
-        extent(count, sizes)?,
+        extent(count, sizes),
         tail_of(found.as_slice()),
         tensor,
     )?)
@@ -213,14 +212,14 @@ fn rows(
     count: &Aff,
     body: &Term,
 ) -> Result<Items<Tensor>, MeaningFault>
-    requires count { IsTrue (items_scoped (length sizes.now) 0 count.now) }
-    requires sized { sized (length sizes.now) body.now ≡ true }
-    requires placed { placed (length sizes.now) body.now (length vars.old + 1) ≡ true }
+    requires count { IsTrue (is_counted sizes.now count.now) }
+    requires counted { counted sizes.now body.now ≡ true }
+    requires exact { exact_below sizes.now (extent count.now sizes.now) body.now vars.old ≡ true }
     ensures value { IfOk result (λ rows. map meant rows ≡ tabulate (extent count.now sizes.now) (body_in sizes.now body.now vars.old bindings.old)) }
     ensures vars { OnOk result (vars.new ≡ vars.old) }
     ensures bindings { OnOk result (bindings.new ≡ bindings.old) }
 {
-    let turns = extent(count, sizes)?;
+    let turns = extent(count, sizes);
     let mut rows = Items::new(alloc);
     for i in 0..turns {
         vars.enter(alloc, i)?;
@@ -241,8 +240,8 @@ fn summed(
     body: &Term,
     start: Tensor,
 ) -> Result<Tensor, MeaningFault>
-    requires sized { sized (length sizes.now) body.now ≡ true }
-    requires placed { placed (length sizes.now) body.now (length vars.old + 1) ≡ true }
+    requires counted { counted sizes.now body.now ≡ true }
+    requires exact { exact_below sizes.now count body.now vars.old ≡ true }
     ensures value { IfOk result (λ v. meant v ≡ total (meant start) (tabulate count (body_in sizes.now body.now vars.old bindings.old))) }
     ensures vars { OnOk result (vars.new ≡ vars.old) }
     ensures bindings { OnOk result (bindings.new ≡ bindings.old) }
@@ -268,14 +267,14 @@ fn sum(
     count: &Aff,
     body: &Term,
 ) -> Result<Tensor, MeaningFault>
-    requires count { IsTrue (items_scoped (length sizes.now) 0 count.now) }
-    requires sized { sized (length sizes.now) body.now ≡ true }
-    requires placed { placed (length sizes.now) body.now (length vars.old + 1) ≡ true }
+    requires count { IsTrue (is_counted sizes.now count.now) }
+    requires counted { counted sizes.now body.now ≡ true }
+    requires exact { exact_below sizes.now (extent count.now sizes.now) body.now vars.old ≡ true }
     ensures value { IfOk result (λ v. meant v ≡ total (zeros (extents_in sizes.now body.now bindings.old)) (tabulate (extent count.now sizes.now) (body_in sizes.now body.now vars.old bindings.old))) }
     ensures vars { OnOk result (vars.new ≡ vars.old) }
     ensures bindings { OnOk result (bindings.new ≡ bindings.old) }
 {
-    let turns = extent(count, sizes)?;
+    let turns = extent(count, sizes);
     let start = zeros_like(alloc, sizes, bindings, body)?;
     summed(alloc, sizes, vars, bindings, turns, body, start)
 }
@@ -289,14 +288,14 @@ fn guarded(
     condition: &Cond,
     body: &Term,
 ) -> Result<Tensor, MeaningFault>
-    requires scoped { IsTrue (all_scoped (length sizes.now) (length vars.old) condition.now.all) }
-    requires sized { sized (length sizes.now) body.now ≡ true }
-    requires placed { placed (length sizes.now) body.now (length vars.old) ≡ true }
+    requires condition { IsTrue (all_exact sizes.now vars.old condition.now.all) }
+    requires counted { counted sizes.now body.now ≡ true }
+    requires exact { exact sizes.now body.now vars.old ≡ true }
     ensures value { IfOk result (λ v. meant v ≡ (if all_hold sizes.now vars.old condition.now.all then tensor_in sizes.now body.now vars.old bindings.old else zeros (extents_in sizes.now body.now bindings.old))) }
     ensures vars { OnOk result (vars.new ≡ vars.old) }
     ensures bindings { OnOk result (bindings.new ≡ bindings.old) }
 {
-    if holds(condition, sizes, vars.as_slice())? {
+    if holds(condition, sizes, vars.as_slice()) {
         evaluate(alloc, sizes, vars, bindings, body)
     } else {
         zeros_like(alloc, sizes, bindings, body)
@@ -313,8 +312,8 @@ fn under(
     body: &Term,
     definition: Binding,
 ) -> Result<Tensor, MeaningFault>
-    requires sized { sized (length sizes.now) body.now ≡ true }
-    requires placed { placed (length sizes.now) body.now (length vars.old) ≡ true }
+    requires counted { counted sizes.now body.now ≡ true }
+    requires exact { exact sizes.now body.now vars.old ≡ true }
     ensures value { IfOk result (λ v. meant v ≡ tensor_in sizes.now body.now vars.old (definition ∷ bindings.old)) }
     ensures vars { OnOk result (vars.new ≡ vars.old) }
     ensures bindings { OnOk result (bindings.new ≡ bindings.old) }
@@ -336,8 +335,8 @@ fn with_second(
     operation: Operation,
     first: Tensor,
 ) -> Result<Tensor, MeaningFault>
-    requires sized { sized (length sizes.now) second.now ≡ true }
-    requires placed { placed (length sizes.now) second.now (length vars.old) ≡ true }
+    requires counted { counted sizes.now second.now ≡ true }
+    requires exact { exact sizes.now second.now vars.old ≡ true }
     ensures value { IfOk result (λ v. meant v ≡ by_places (on_words operation) (meant first) (tensor_in sizes.now second.now vars.old bindings.old)) }
     ensures vars { OnOk result (vars.new ≡ vars.old) }
     ensures bindings { OnOk result (bindings.new ≡ bindings.old) }
@@ -356,8 +355,8 @@ fn followed_by(
     second: &Term,
     first: Tensor,
 ) -> Result<Tensor, MeaningFault>
-    requires sized { sized (length sizes.now) second.now ≡ true }
-    requires placed { placed (length sizes.now) second.now (length vars.old) ≡ true }
+    requires counted { counted sizes.now second.now ≡ true }
+    requires exact { exact sizes.now second.now vars.old ≡ true }
     ensures value { IfOk result (λ v. meant v ≡ from_rows (rows_of (meant first) ++ rows_of (tensor_in sizes.now second.now vars.old bindings.old))) }
     ensures vars { OnOk result (vars.new ≡ vars.old) }
     ensures bindings { OnOk result (bindings.new ≡ bindings.old) }
@@ -376,14 +375,14 @@ fn row(
     term: &Term,
     index: &Aff,
 ) -> Result<Tensor, MeaningFault>
-    requires sized { sized (length sizes.now) term.now ≡ true }
-    requires placed { placed (length sizes.now) term.now (length vars.old) ≡ true }
-    requires scoped { IsTrue (items_scoped (length sizes.now) (length vars.old) index.now) }
+    requires counted { counted sizes.now term.now ≡ true }
+    requires exact { exact sizes.now term.now vars.old ≡ true }
+    requires index { IsTrue (is_exact sizes.now vars.old index.now) }
     ensures value { IfOk result (λ v. meant v ≡ row_at (rows_of (tensor_in sizes.now term.now vars.old bindings.old)) (items_value sizes.now vars.old index.now) (zeros (tail_of (extents_in sizes.now term.now bindings.old)))) }
     ensures vars { OnOk result (vars.new ≡ vars.old) }
     ensures bindings { OnOk result (bindings.new ≡ bindings.old) }
 {
-    let number = value(index, sizes, vars.as_slice())?;
+    let number = value(index, sizes, vars.as_slice());
     match read(alloc, sizes, vars.as_slice(), bindings, term, number)? {
         Read::Row(row) => Ok(row),
         Read::Missing => zero_row(alloc, sizes, bindings, term),
@@ -404,8 +403,8 @@ pub fn evaluate(
     bindings: &mut Stack<Binding>,
     term: &Term,
 ) -> Result<Tensor, MeaningFault>
-    requires sized { sized (length sizes.now) term.now ≡ true }
-    requires placed { placed (length sizes.now) term.now (length vars.old) ≡ true }
+    requires counted { counted sizes.now term.now ≡ true }
+    requires exact { exact sizes.now term.now vars.old ≡ true }
     ensures value { IfOk result (λ v. meant v ≡ tensor_in sizes.now term.now vars.old bindings.old) }
     ensures vars { OnOk result (vars.new ≡ vars.old) }
     ensures bindings { OnOk result (bindings.new ≡ bindings.old) }
@@ -413,7 +412,7 @@ pub fn evaluate(
     match term {
         Term::Lit(w) => Ok(Tensor::Word(*w)),
         Term::TVar(var) => variable(alloc, bindings, *var),
-        Term::WordOf(x) => word_at(x, sizes, vars.as_slice()),
+        Term::WordOf(x) => Ok(word_at(x, sizes, vars.as_slice())),
         Term::Index(e, x) => row(alloc, sizes, vars, bindings, e.get(), x),
         Term::Gen(n, e) => {
             let all = rows(alloc, sizes, vars, bindings, n, e.get())?;

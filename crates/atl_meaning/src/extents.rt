@@ -4,10 +4,9 @@
 //! big.
 
 ghost use Rattle.std.specs.Prelude.{◌≡◌, ◌+◌, ◌-◌, ◌*◌, ◌/◌, ◌<◌, ◌∷◌, [], length, get_or, true, IfOk, IsTrue, OnOk};
-ghost use Rattle.affine_index.specs.Limited.{items_scoped};
 ghost use Rattle.term_tree.specs.Meaning.{extent, extents_of, head_of, tail_of};
 ghost use Rattle.atl_meaning.specs.Denoted.{denoted, scope};
-ghost use Rattle.atl_meaning.specs.Scopes.{sized};
+ghost use Rattle.atl_meaning.specs.Exact.{counted, is_counted};
 
 use crate::binding::Binding;
 use crate::fault::MeaningFault;
@@ -107,12 +106,12 @@ fn shortened(
     count: &Aff,
     d: &[u64],
 ) -> Result<Items<u64>, MeaningFault>
-    requires { IsTrue (items_scoped (length sizes.now) 0 count.now) }
+    requires { IsTrue (is_counted sizes.now count.now) }
     ensures { IfOk result (λ ds. ds ≡ (head_of d.now - extent count.now sizes.now) ∷ tail_of d.now) }
 {
     in_front(
         alloc,
-        head_of(d).saturating_sub(extent(count, sizes)?),
+        head_of(d).saturating_sub(extent(count, sizes)),
         tail_of(d),
     )
 }
@@ -123,10 +122,10 @@ fn lengthened(
     count: &Aff,
     d: &[u64],
 ) -> Result<Items<u64>, MeaningFault>
-    requires { IsTrue (items_scoped (length sizes.now) 0 count.now) }
+    requires { IsTrue (is_counted sizes.now count.now) }
     ensures { IfOk result (λ ds. ds ≡ (head_of d.now + extent count.now sizes.now) ∷ tail_of d.now) }
 {
-    in_front(alloc, sum(head_of(d), extent(count, sizes)?)?, tail_of(d))
+    in_front(alloc, sum(head_of(d), extent(count, sizes))?, tail_of(d))
 }
 
 /// The extents of a body under those of its definition.
@@ -138,7 +137,7 @@ fn under(
     definition: Items<u64>,
     body: &Term,
 ) -> Result<Items<u64>, MeaningFault>
-    requires { sized (length sizes.now) body.now ≡ true }
+    requires { counted sizes.now body.now ≡ true }
     ensures extents { IfOk result (λ ds. ds ≡ (denoted sizes.now body.now).extents (definition ∷ extents_of (scope bindings.old))) }
     ensures bindings { OnOk result (bindings.new ≡ bindings.old) }
 {
@@ -160,7 +159,7 @@ fn followed_by(
     first: Items<u64>,
     second: &Term,
 ) -> Result<Items<u64>, MeaningFault>
-    requires { sized (length sizes.now) second.now ≡ true }
+    requires { counted sizes.now second.now ≡ true }
     ensures extents { IfOk result (λ ds. ds ≡ (head_of first + head_of ((denoted sizes.now second.now).extents (extents_of (scope bindings.old)))) ∷ tail_of first) }
     ensures bindings { OnOk result (bindings.new ≡ bindings.old) }
 {
@@ -176,7 +175,7 @@ pub fn extents(
     bindings: &mut Stack<Binding>,
     term: &Term,
 ) -> Result<Items<u64>, MeaningFault>
-    requires { sized (length sizes.now) term.now ≡ true }
+    requires { counted sizes.now term.now ≡ true }
     ensures extents { IfOk result (λ ds. ds ≡ (denoted sizes.now term.now).extents (extents_of (scope bindings.old))) }
     ensures bindings { OnOk result (bindings.new ≡ bindings.old) }
 {
@@ -200,7 +199,7 @@ pub fn extents(
         }
         Term::Gen(n, e) => {
             let d = extents(alloc, sizes, bindings, e.get())?;
-            in_front(alloc, extent(n, sizes)?, d.as_slice())
+            in_front(alloc, extent(n, sizes), d.as_slice())
         }
         Term::Flatten(e) => {
             let d = extents(alloc, sizes, bindings, e.get())?;

@@ -24,6 +24,3 @@ mod words;
 pub use fault::MeaningFault;
 pub use outputs::denote;
 pub use tensor::Tensor;
-
-#[cfg(test)]
-mod tests;

@@ -2,9 +2,10 @@
 #![tactic(auto, using(crate::proofs::TurnLaws::limit_laws, crate::proofs::ModuleLaws::shape_laws))]
 
 ghost use Rattle.std.specs.Prelude.{◌≡◌, ◌-◌, ◌<◌, ◌^◌, length, map, true, IfOk};
-ghost use Rattle.term_tree.specs.Modules.{Allowed, AreInputs, IsSound, extents_at, extents_scoped, inputs_bound, inputs_scoped, module_den};
+ghost use Rattle.term_tree.specs.Modules.{Allowed, AreInputs, IsSound, extents_at, inputs_bound, inputs_scoped, module_den};
 ghost use Rattle.atl_meaning.specs.Answers.{HasCause, IsDecided};
 ghost use Rattle.atl_meaning.specs.Denoted.{outputs_tensors, scope};
+ghost use Rattle.atl_meaning.specs.Exact.{all_counted, inputs_counted, outputs_exact};
 ghost use Rattle.atl_meaning.specs.Forms.{each_scoped, shapes_of};
 ghost use Rattle.atl_meaning.specs.Scopes.{outputs_ready};
 ghost use Rattle.atl_meaning.specs.Surveyed.{outputs_surveyed};
@@ -42,12 +43,12 @@ fn at_least_one(alloc: Global, sizes: &[u64]) -> Result<Items<u64>, MeaningFault
 
 /// The extents at the sizes.
 fn extents_at(alloc: Global, sizes: &[u64], extents: &[Aff]) -> Result<Items<u64>, MeaningFault>
-    requires { extents_scoped (length sizes.now) extents.now ≡ true }
+    requires { all_counted sizes.now extents.now ≡ true }
     ensures { IfOk result (λ ds. ds ≡ extents_at extents.now sizes.now) }
 {
     let mut numbers = Items::new(alloc);
     for form in extents {
-        numbers.push(extent(form, sizes)?)?;
+        numbers.push(extent(form, sizes))?;
     }
     Ok(numbers)
 }
@@ -63,7 +64,7 @@ fn first_big_input(
     ensures { IfOk result (λ big. big ≡ first_big_input inputs.now sizes.now) }
 {
     for input in inputs {
-        let words = words_at(input.extents.as_slice(), sizes, floor, false)?;
+        let words = words_at(input.extents.as_slice(), sizes, floor, false);
         if let Some(words) = too_big(words, None) {
             return Ok(Some(words));
         }
@@ -136,7 +137,7 @@ fn left_of_limit(
     outputs: &[OutputDecl],
     limit: u64,
 ) -> Result<Option<u64>, MeaningFault>
-    requires { outputs_ready (length sizes.now) outputs.now ≡ true }
+    requires { outputs_exact sizes.now outputs.now ≡ true }
     ensures { IfOk result (λ left. left ≡ spent (turn_folds sizes.now outputs.now) limit) }
 {
     let mut vars = Variables::new(alloc);
@@ -157,7 +158,7 @@ fn bound(
     declared: &[InputDecl],
     inputs: &[Tensor],
 ) -> Result<Stack<Binding>, MeaningFault>
-    requires { inputs_scoped (length sizes.now) declared.now ≡ true }
+    requires { inputs_counted sizes.now declared.now ≡ true }
     ensures { IfOk result (λ bindings. scope bindings ≡ inputs_bound declared.now sizes.now (map meant inputs.now)) }
 {
     let mut bindings = Vec::new(alloc);
@@ -178,7 +179,7 @@ fn evaluated(
     bindings: &mut Stack<Binding>,
     outputs: &[OutputDecl],
 ) -> Result<Items<Tensor>, MeaningFault>
-    requires { outputs_ready (length sizes.now) outputs.now ≡ true }
+    requires { outputs_exact sizes.now outputs.now ≡ true }
     ensures { IfOk result (λ tensors. map meant tensors ≡ outputs_tensors sizes.now outputs.now (scope bindings.old)) }
 {
     let mut vars = Variables::new(alloc);
@@ -196,8 +197,8 @@ fn computed(
     sizes: &[u64],
     inputs: &[Tensor],
 ) -> Result<Items<Tensor>, MeaningFault>
-    requires inputs { inputs_scoped (length sizes.now) «module».now.inputs ≡ true }
-    requires outputs { outputs_ready (length sizes.now) «module».now.outputs ≡ true }
+    requires inputs { inputs_counted sizes.now «module».now.inputs ≡ true }
+    requires outputs { outputs_exact sizes.now «module».now.outputs ≡ true }
     ensures { IfOk result (λ tensors. map meant tensors ≡ outputs_tensors sizes.now «module».now.outputs (inputs_bound «module».now.inputs sizes.now (map meant inputs.now))) }
 {
     let mut bindings = bound(alloc, sizes, module.inputs.as_slice(), inputs)?;

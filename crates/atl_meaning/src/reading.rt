@@ -1,13 +1,12 @@
 //! Rows of tensors that terms name, read in place.
 
-ghost use Rattle.std.specs.Prelude.{◌≡◌, get_or, length, true, IfOk, IsTrue, MatchOption};
-ghost use Rattle.affine_index.specs.Limited.{items_scoped};
+ghost use Rattle.std.specs.Prelude.{◌≡◌, get_or, true, IfOk, IsTrue, MatchOption};
 ghost use Rattle.affine_index.specs.Value.{items_value};
 ghost use Rattle.term_tree.specs.Tensors.{Tensor as Meant, rows_of, zeros};
 ghost use Rattle.term_tree.specs.Meaning.{no_bound, row_at, tail_of};
 ghost use Rattle.atl_meaning.specs.Denoted.{extents_in, scope, tensor_in};
 ghost use Rattle.atl_meaning.specs.Reads.{IsRead};
-ghost use Rattle.atl_meaning.specs.Scopes.{placed};
+ghost use Rattle.atl_meaning.specs.Exact.{exact, is_exact};
 ghost use Rattle.atl_meaning.specs.Values.{meant};
 
 use crate::binding::Binding;
@@ -38,12 +37,12 @@ fn row_of_index<'a>(
     index: &Aff,
     sizes: &[u64],
     vars: &[u64],
-) -> Result<Option<&'a Tensor>, MeaningFault>
-    requires { IsTrue (items_scoped (length sizes.now) (length vars.now) index.now) }
-    ensures { (z : Meant) → IfOk result (λ found. MatchOption found (row_at (rows_of (meant tensor.now)) (items_value sizes.now vars.now index.now) z ≡ z) (λ row. row_at (rows_of (meant tensor.now)) (items_value sizes.now vars.now index.now) z ≡ meant row.now)) }
+) -> Option<&'a Tensor>
+    requires { IsTrue (is_exact sizes.now vars.now index.now) }
+    ensures { (z : Meant) → MatchOption result (row_at (rows_of (meant tensor.now)) (items_value sizes.now vars.now index.now) z ≡ z) (λ row. row_at (rows_of (meant tensor.now)) (items_value sizes.now vars.now index.now) z ≡ meant row.now) }
 {
-    let number = value(index, sizes, vars)?;
-    Ok(row_of(tensor, number))
+    let number = value(index, sizes, vars);
+    row_of(tensor, number)
 }
 
 /// The tensor that a variable, or a row of one, names: none for another term, and none where there is no such row.
@@ -53,7 +52,7 @@ fn find<'a>(
     bindings: &'a Stack<Binding>,
     term: &Term,
 ) -> Result<Option<Option<&'a Tensor>>, MeaningFault>
-    requires { placed (length sizes.now) term.now (length vars.now) ≡ true }
+    requires { exact sizes.now term.now vars.now ≡ true }
     ensures { IfOk result (λ found. MatchOption found (Unit {0}) (λ tensor. MatchOption tensor (tensor_in sizes.now term.now vars.now bindings.now ≡ zeros (extents_in sizes.now term.now bindings.now)) (λ v. tensor_in sizes.now term.now vars.now bindings.now ≡ meant v.now))) }
 {
     match term {
@@ -63,7 +62,7 @@ fn find<'a>(
         },
         Term::Index(e, x) => match find(sizes, vars, bindings, e.get())? {
             Some(Some(tensor)) => {
-                let row = row_of_index(tensor, x, sizes, vars)?;
+                let row = row_of_index(tensor, x, sizes, vars);
                 Ok(Some(row))
             }
             Some(None) => Ok(Some(None)),
@@ -98,7 +97,7 @@ pub fn read(
     term: &Term,
     number: i128,
 ) -> Result<Read, MeaningFault>
-    requires { placed (length sizes.now) term.now (length vars.now) ≡ true }
+    requires { exact sizes.now term.now vars.now ≡ true }
     ensures { IfOk result (λ read. IsRead (row_at (rows_of (tensor_in sizes.now term.now vars.now bindings.now)) number (zeros (tail_of (extents_in sizes.now term.now bindings.now)))) (zeros (tail_of (extents_in sizes.now term.now bindings.now))) read) }
 {
     match find(sizes, vars, bindings, term)? {

@@ -36,7 +36,7 @@ fn at_node(
     ensures found { IfOk result (λ found. found ≡ found_at sizes.now extents large later) }
     ensures scoped { IfOk result (λ found. extents_scoped (length sizes.now) found.extents ≡ true) }
 {
-    let words = words_at(extents.as_slice(), sizes, floor, large)?;
+    let words = words_at(extents.as_slice(), sizes, floor, large);
     Ok(Found {
         extents,
         big: too_big(words, later),

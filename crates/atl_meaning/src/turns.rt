@@ -1,11 +1,10 @@
 //! The turns of gen and sum that a term takes, counted against a limit.
 #![tactic(auto, using(crate::proofs::TurnLaws::spent_laws))]
 
-ghost use Rattle.std.specs.Prelude.{◌≡◌, ℕ, ◌+◌, ◌∷◌, length, true, IfOk, IsTrue, OnOk, if◌then◌else◌};
-ghost use Rattle.affine_index.specs.Condition.{all_hold, all_scoped};
-ghost use Rattle.affine_index.specs.Limited.{items_scoped};
+ghost use Rattle.std.specs.Prelude.{◌≡◌, ℕ, ◌+◌, ◌∷◌, true, IfOk, IsTrue, OnOk, if◌then◌else◌};
+ghost use Rattle.affine_index.specs.Condition.{all_hold};
 ghost use Rattle.term_tree.specs.Meaning.{extent};
-ghost use Rattle.atl_meaning.specs.Scopes.{placed, sized};
+ghost use Rattle.atl_meaning.specs.Exact.{all_exact, counted, exact, exact_below, is_counted};
 ghost use Rattle.atl_meaning.specs.Turns.{spent, turn_fold, total_below};
 
 use crate::fault::MeaningFault;
@@ -25,13 +24,13 @@ fn left_after_loop(
     body: &Term,
     left: u64,
 ) -> Result<Option<u64>, MeaningFault>
-    requires count { IsTrue (items_scoped (length sizes.now) 0 count.now) }
-    requires sized { sized (length sizes.now) body.now ≡ true }
-    requires placed { placed (length sizes.now) body.now (length vars.old + 1) ≡ true }
+    requires count { IsTrue (is_counted sizes.now count.now) }
+    requires counted { counted sizes.now body.now ≡ true }
+    requires exact { exact_below sizes.now (extent count.now sizes.now) body.now vars.old ≡ true }
     ensures left { IfOk result (λ rest. rest ≡ spent (total_below (extent count.now sizes.now) (λ i. 1 + turn_fold sizes.now body.now (i ∷ vars.old))) left) }
     ensures vars { OnOk result (vars.new ≡ vars.old) }
 {
-    let turns = extent(count, sizes)?;
+    let turns = extent(count, sizes);
     let mut rest = left;
     for i in 0..turns {
         if rest == 0 {
@@ -57,8 +56,8 @@ fn left_after_second(
     left: Option<u64>,
     second: &Term,
 ) -> Result<Option<u64>, MeaningFault>
-    requires sized { sized (length sizes.now) second.now ≡ true }
-    requires placed { placed (length sizes.now) second.now (length vars.old) ≡ true }
+    requires counted { counted sizes.now second.now ≡ true }
+    requires exact { exact sizes.now second.now vars.old ≡ true }
     ensures left { IfOk result (λ rest. (first before : ℕ) → left ≡ spent first before → rest ≡ spent (first + turn_fold sizes.now second.now vars.old) before) }
     ensures vars { OnOk result (vars.new ≡ vars.old) }
 {
@@ -78,13 +77,13 @@ fn left_after_guard(
     body: &Term,
     left: u64,
 ) -> Result<Option<u64>, MeaningFault>
-    requires scoped { IsTrue (all_scoped (length sizes.now) (length vars.old) condition.now.all) }
-    requires sized { sized (length sizes.now) body.now ≡ true }
-    requires placed { placed (length sizes.now) body.now (length vars.old) ≡ true }
+    requires condition { IsTrue (all_exact sizes.now vars.old condition.now.all) }
+    requires counted { counted sizes.now body.now ≡ true }
+    requires exact { exact sizes.now body.now vars.old ≡ true }
     ensures left { IfOk result (λ rest. rest ≡ spent (if all_hold sizes.now vars.old condition.now.all then turn_fold sizes.now body.now vars.old else 0) left) }
     ensures vars { OnOk result (vars.new ≡ vars.old) }
 {
-    if holds(condition, sizes, vars.as_slice())? {
+    if holds(condition, sizes, vars.as_slice()) {
         left_after(alloc, sizes, vars, body, left)
     } else {
         Ok(Some(left))
@@ -101,8 +100,8 @@ pub fn left_after(
     term: &Term,
     left: u64,
 ) -> Result<Option<u64>, MeaningFault>
-    requires sized { sized (length sizes.now) term.now ≡ true }
-    requires placed { placed (length sizes.now) term.now (length vars.old) ≡ true }
+    requires counted { counted sizes.now term.now ≡ true }
+    requires exact { exact sizes.now term.now vars.old ≡ true }
     ensures left { IfOk result (λ rest. rest ≡ spent (turn_fold sizes.now term.now vars.old) left) }
     ensures vars { OnOk result (vars.new ≡ vars.old) }
 {

@@ -1,37 +1,46 @@
-//! Values of index expressions at the sizes.
-//!
-//! Where a partial result has 2^120 or more in size, want of memory is answered. By argument, not by proof, that comes
-//! nowhere once no node is too big, since then each magnitude is below 2^63.
+//! Values of index expressions at the sizes, where no partial result is 2^120 or more in size and no extent 2^63 or more.
 
-ghost use Rattle.std.specs.Prelude.{◌≡◌, length, IfOk, IsTrue};
-ghost use Rattle.affine_index.specs.Condition.{all_hold, all_scoped};
-ghost use Rattle.affine_index.specs.Limited.{items_scoped};
+ghost use Rattle.std.specs.Prelude.{◌≡◌, ◌<◌, ◌^◌, IsTrue};
+ghost use Rattle.affine_index.specs.Condition.{all_hold, cmp_form, cmp_holds};
 ghost use Rattle.affine_index.specs.Value.{items_value};
+ghost use Rattle.atl_meaning.specs.Exact.{all_exact, is_counted, is_exact};
 ghost use Rattle.term_tree.specs.Meaning.{count_of, extent, word_of};
 
-use crate::fault::MeaningFault;
-use affine_index::{Aff, Cond};
+use affine_index::{Aff, Cmp, Cond};
 
 /// The value at sizes and index variables.
-pub fn value(form: &Aff, sizes: &[u64], vars: &[u64]) -> Result<i128, MeaningFault>
-    requires { IsTrue (items_scoped (length sizes.now) (length vars.now) form.now) }
-    ensures { IfOk result (λ z. z ≡ items_value sizes.now vars.now form.now) }
+pub fn value(form: &Aff, sizes: &[u64], vars: &[u64]) -> i128
+    requires { IsTrue (is_exact sizes.now vars.now form.now) }
+    ensures { result ≡ items_value sizes.now vars.now form.now }
 {
+    form.told();
     match form.value(sizes, vars) {
-        Some(value) => Ok(value),
-        None => Err(MeaningFault::Memory),
+        Some(value) => value,
+        None => unreachable!(),
+    }
+}
+
+fn comparison_holds(comparison: &Cmp, sizes: &[u64], vars: &[u64]) -> bool
+    requires { IsTrue (is_exact sizes.now vars.now (cmp_form comparison.now)) }
+    ensures { result ≡ cmp_holds sizes.now vars.now comparison.now }
+{
+    match comparison {
+        Cmp::Ge(form) => value(form, sizes, vars) >= 0,
+        Cmp::Eq(form) => value(form, sizes, vars) == 0,
     }
 }
 
 /// Whether a condition holds.
-pub fn holds(condition: &Cond, sizes: &[u64], vars: &[u64]) -> Result<bool, MeaningFault>
-    requires { IsTrue (all_scoped (length sizes.now) (length vars.now) condition.now.all) }
-    ensures { IfOk result (λ held. held ≡ all_hold sizes.now vars.now condition.now.all) }
+pub fn holds(condition: &Cond, sizes: &[u64], vars: &[u64]) -> bool
+    requires { IsTrue (all_exact sizes.now vars.now condition.now.all) }
+    ensures { result ≡ all_hold sizes.now vars.now condition.now.all }
 {
-    match condition.holds(sizes, vars) {
-        Some(held) => Ok(held),
-        None => Err(MeaningFault::Memory),
+    for comparison in condition.all.as_slice() {
+        if !comparison_holds(comparison, sizes, vars) {
+            return false;
+        }
     }
+    true
 }
 
 /// A whole number modulo 2^64.
@@ -42,22 +51,23 @@ pub fn word(value: i128) -> u64
 }
 
 /// A whole number, below 0 counted as 0.
-fn count(value: i128) -> Result<u64, MeaningFault>
-    ensures { IfOk result (λ n. n ≡ count_of value) }
+fn count(value: i128) -> u64
+    requires { count_of value < 2 ^ 63 }
+    ensures { result ≡ count_of value }
 {
     if value < 0 {
-        return Ok(0);
+        return 0;
     }
     match u64::try_from(value) {
-        Ok(count) => Ok(count),
-        Err(_) => Err(MeaningFault::Memory),
+        Ok(count) => count,
+        Err(_) => unreachable!(),
     }
 }
 
 /// An extent or amount, in which no index variable stands.
-pub fn extent(form: &Aff, sizes: &[u64]) -> Result<u64, MeaningFault>
-    requires { IsTrue (items_scoped (length sizes.now) 0 form.now) }
-    ensures { IfOk result (λ n. n ≡ extent form.now sizes.now) }
+pub fn extent(form: &Aff, sizes: &[u64]) -> u64
+    requires { IsTrue (is_counted sizes.now form.now) }
+    ensures { result ≡ extent form.now sizes.now }
 {
-    count(value(form, sizes, &[])?)
+    count(value(form, sizes, &[]))
 }

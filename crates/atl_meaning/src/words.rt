@@ -1,12 +1,12 @@
 //! How many words count for a node.
 
-ghost use Rattle.std.specs.Prelude.{◌≡◌, length, IfOk, IsTrue};
+ghost use Rattle.std.specs.Prelude.{◌≡◌, length, IsTrue};
 ghost use Rattle.affine_index.specs.Condition.{all_scoped, cmp_form};
 ghost use Rattle.affine_index.specs.Limited.{items_scoped};
 ghost use Rattle.term_tree.specs.Modules.{extents_at, extents_scoped};
+ghost use Rattle.atl_meaning.specs.Exact.{all_counted};
 ghost use Rattle.atl_meaning.specs.Words.{any_large, any_large_comparison, at_least_one, first_of, is_large, too_big, word_product, words_at, words_of};
 
-use crate::fault::MeaningFault;
 use crate::values::extent;
 use affine_index::{Aff, Cmp, Cond};
 
@@ -60,31 +60,26 @@ fn any_large(extents: &[Aff], sizes: &[u64]) -> bool
 }
 
 /// The product of the extents, each counted as at least 1, which ends at 2^64 - 1.
-fn product(extents: &[Aff], sizes: &[u64]) -> Result<u64, MeaningFault>
-    requires { IsTrue (extents_scoped (length sizes.now) extents.now) }
-    ensures { IfOk result (λ words. words ≡ words_of (extents_at extents.now sizes.now)) }
+fn product(extents: &[Aff], sizes: &[u64]) -> u64
+    requires { IsTrue (all_counted sizes.now extents.now) }
+    ensures { result ≡ words_of (extents_at extents.now sizes.now) }
 {
     let mut words: u64 = 1;
     for form in extents {
-        words = words.saturating_mul(extent(form, sizes)?.max(1));
+        words = words.saturating_mul(extent(form, sizes).max(1));
     }
-    Ok(words)
+    words
 }
 
 /// The words of a node of these extents, or 2^64 - 1 where one of them, or a form that stands in the node, is large.
 /// The second sizes are the first, counted as at least 1.
-pub fn words_at(
-    extents: &[Aff],
-    sizes: &[u64],
-    floor: &[u64],
-    large: bool,
-) -> Result<u64, MeaningFault>
+pub fn words_at(extents: &[Aff], sizes: &[u64], floor: &[u64], large: bool) -> u64
     requires floor { floor.now ≡ at_least_one sizes.now }
     requires scoped { IsTrue (extents_scoped (length sizes.now) extents.now) }
-    ensures { IfOk result (λ words. words ≡ words_at sizes.now extents.now large) }
+    ensures { result ≡ words_at sizes.now extents.now large }
 {
     if large || any_large(extents, floor) {
-        return Ok(u64::MAX);
+        return u64::MAX;
     }
     product(extents, sizes)
 }

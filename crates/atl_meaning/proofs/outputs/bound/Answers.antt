@@ -1,8 +1,9 @@
-use Rattle.std.proofs.Common.{◌≡◌, ◌∙◌, ◌∷◌, ◌++◌, ◌+◌, [], ap, arith, drop, length, rules, sym}
+use Rattle.std.proofs.Common.{◌≡◌, ◌∙◌, ◌∷◌, ◌++◌, ◌+◌, [], ap, arith, drop, rules, sym}
 use Rattle.std.proofs.lemmas.Bool.{and_parts}
 use Rattle.term_tree.specs.declared.term.InputDecl.{InputDecl}
-use Rattle.term_tree.specs.Modules.{extents_at, extents_scoped, inputs_scoped}
+use Rattle.term_tree.specs.Modules.{extents_at}
 use Rattle.atl_meaning.specs.Denoted.{scope}
+use Rattle.atl_meaning.specs.Exact.{all_counted, inputs_counted}
 use Rattle.atl_meaning.specs.Values.{meant}
 use Rattle.atl_meaning.specs.declared.binding.Binding.{Binding}
 use Rattle.atl_meaning.proofs.ListLaws.{drop-next, map-last}
@@ -23,7 +24,7 @@ loop-at-preserved c =
     let pushed : c.push.new.self.items ≡ c.loop-at.bindings.items ++ b ∷ [] = search rules in
     record {
       within = omega arith;
-      scoped = (and_parts (extents_scoped (length s) d.extents) (inputs_scoped (length s) rest) (ap (inputs_scoped (length s)) (sym e) ∙ c.loop-at.invariant.scoped)).1;
+      counted = (and_parts (all_counted s d.extents) (inputs_counted s rest) (ap (inputs_counted s) (sym e) ∙ c.loop-at.invariant.counted)).1;
       bound = ap scope pushed ∙ map-last (λ b. (b.extents, meant b.value)) c.loop-at.bindings.items b
           ∙ (λ i. c.loop-at.invariant.bound i ++ ((c.in_ok-extents.ensures ∙ ap (λ ns. extents_at ns s) c.as_slice.ensures ∙ ap (λ (x : InputDecl). extents_at x.extents s) (sym c.index-declared-at.is)) i, meant (c.in_ok-value.ensures i)) ∷ [])
           ∙ sym (bound-next meant ds s vs k d v (omega arith) (omega arith) c.index-declared-at.is c.index-inputs-at.is);

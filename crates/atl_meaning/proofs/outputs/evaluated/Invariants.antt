@@ -1,6 +1,6 @@
-use Rattle.std.proofs.Common.{◌≡◌, [], drop, length, map, take, true}
+use Rattle.std.proofs.Common.{◌≡◌, [], drop, map, take, true}
 use Rattle.atl_meaning.specs.Denoted.{outputs_tensors, scope}
-use Rattle.atl_meaning.specs.Scopes.{outputs_ready}
+use Rattle.atl_meaning.specs.Exact.{outputs_exact}
 use Rattle.atl_meaning.specs.Values.{meant}
 use Rattle.atl_meaning.proofs.outputs.evaluated.Given as goal
 
@@ -8,6 +8,6 @@ abbrev pub invariant-loop-output : goal.invariant-loop-output
 invariant-loop-output l = record {
   vars : l.vars ≡ [];
   bindings : l.bindings ≡ l.initial.bindings;
-  ready : outputs_ready (length l.sizes) (drop l.output-index l.outputs) ≡ true;
+  exact : outputs_exact l.sizes (drop l.output-index l.outputs) ≡ true;
   tensors : map meant l.tensors ≡ outputs_tensors l.sizes (take l.output-index l.outputs) (scope l.initial.bindings);
 }

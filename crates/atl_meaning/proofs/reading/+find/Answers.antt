@@ -1,10 +1,13 @@
-use Rattle.std.proofs.Common.{◌≡◌, ◌∙◌, [], ap, sym}
+use Rattle.std.proofs.Common.{◌≡◌, ◌∙◌, [], ap, rules, subst, sym, true}
+use Rattle.term_tree.specs.declared.term.Term.{Term}
+use Rattle.term_tree.specs.declared.term.Term.TheViews.{the_lemmas}
+use Rattle.atl_meaning.specs.Exact.{exact}
 use Rattle.affine_index.specs.Value.{items_value}
 use Rattle.term_tree.specs.Tensors.{rows_of, zeros}
 use Rattle.term_tree.specs.Meaning.{extents_of, no_bound, row_at, tail_of}
 use Rattle.atl_meaning.specs.Denoted.{extents_in, scope, tensor_in}
 use Rattle.atl_meaning.specs.Values.{meant}
-use Rattle.atl_meaning.proofs.CodeLaws.{denoted-Index, denoted-TVar}
+use Rattle.atl_meaning.proofs.CodeLaws.{denoted-Index, denoted-TVar, exact-Index}
 use Rattle.atl_meaning.proofs.ListLaws.{zeros-row}
 use Rattle.atl_meaning.proofs.ScopeLists.{found-at, match-map, missing-at, missing-twice, twice-none, twice-some}
 use Rattle.atl_meaning.proofs.reading.+find.Goals as goal
@@ -27,8 +30,8 @@ returns-in-None t c =
     ∙ ap zeros (sym (ap (λ e. extents_in s e bs) c.in-TVar.is ∙ ap (λ d. d.extents (extents_of (scope bs))) (denoted-TVar s c.in-TVar.var)
     ∙ missing-twice (λ b. b.0) (λ b. (b.extents, meant b.value)) bs c.in-TVar.var [] (sym c.in-None.ensures)))
 
-pub returns-in_ok-row-in-Some-Some : goal.returns-in_ok-row-in-Some-Some
-returns-in_ok-row-in-Some-Some t c =
+pub returns-in-Some-Some : goal.returns-in-Some-Some
+returns-in-Some-Some t c =
     let s = c.args.sizes.now in
     let r = c.args.vars.now in
     let bs = c.args.bindings.now in
@@ -37,7 +40,7 @@ returns-in_ok-row-in-Some-Some t c =
     let extents = ap (λ e. extents_in s e bs) c.in-Index.is ∙ ap (λ d. d.extents (extents_of (scope bs))) (denoted-Index s e c.in-Index.x) in
     let tensor = ap (λ e. tensor_in s e r bs) c.in-Index.is ∙ ap (λ d. d.tensor r (scope bs)) (denoted-Index s e c.in-Index.x)
     ∙ ap (λ v. row_at (rows_of v) (items_value s r c.in-Index.x) (zeros (tail_of (extents_in s e bs)))) child in
-    match-map c.in_ok-row-in-Some-Some.row _ _ _ _ (λ h. tensor ∙ h ∙ ap zeros (sym extents)) (λ row h. tensor ∙ h) (c.in_ok-row-in-Some-Some.ensures (zeros (tail_of (extents_in s e bs))))
+    match-map c.row_of_index-row.result _ _ _ _ (λ h. tensor ∙ h ∙ ap zeros (sym extents)) (λ row h. tensor ∙ h) (c.row_of_index-row.ensures (zeros (tail_of (extents_in s e bs))))
 
 pub returns-in-Some-None : goal.returns-in-Some-None
 returns-in-Some-None t c =
@@ -50,3 +53,12 @@ returns-in-Some-None t c =
     ap (λ e. tensor_in s e r bs) c.in-Index.is ∙ ap (λ d. d.tensor r (scope bs)) (denoted-Index s e c.in-Index.x)
     ∙ ap (λ v. row_at (rows_of v) (items_value s r c.in-Index.x) (zeros (tail_of ds))) child ∙ zeros-row ds (items_value s r c.in-Index.x)
     ∙ ap zeros (sym (ap (λ e. extents_in s e bs) c.in-Index.is ∙ ap (λ d. d.extents (extents_of (scope bs))) (denoted-Index s e c.in-Index.x)))
+
+pub find-requires : goal.find-requires
+find-requires t c =
+    let s = c.args.sizes.now in
+    let q = exact-Index s c.args.term.now c.in-Index.e c.in-Index.x c.args.vars.now c.in-Index.is c.requires in
+    (search (rules, the_lemmas), subst (λ (e : Term). exact s e c.args.vars.now ≡ true) (sym c.get-in-Index.ensures) q.0)
+
+pub row_of_index-row-requires : goal.row_of_index-row-requires
+row_of_index-row-requires t c = (exact-Index c.args.sizes.now c.args.term.now c.in-Index.e c.in-Index.x c.args.vars.now c.in-Index.is c.requires).1

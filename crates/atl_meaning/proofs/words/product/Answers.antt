@@ -1,8 +1,8 @@
-use Rattle.std.proofs.Common.{◌≡◌, ◌∙◌, ◌+◌, ◌*◌, ◌-◌, ◌^◌, ap, arith, drop, length, max, min, sym}
+use Rattle.std.proofs.Common.{◌≡◌, ◌∙◌, ◌+◌, ◌*◌, ◌-◌, ◌^◌, ap, arith, drop, max, min, sym}
 use Rattle.std.proofs.lemmas.Bool.{and_parts}
-use Rattle.affine_index.specs.Limited.{items_scoped}
 use Rattle.term_tree.specs.Meaning.{extent}
-use Rattle.term_tree.specs.Modules.{extents_at, extents_scoped}
+use Rattle.term_tree.specs.Modules.{extents_at}
+use Rattle.atl_meaning.specs.Exact.{all_counted, is_counted}
 use Rattle.atl_meaning.specs.Words.{word_product}
 use Rattle.atl_meaning.proofs.ListLaws.{drop-next, drop-whole}
 use Rattle.atl_meaning.proofs.WordLaws.{product-next, word_product-least}
@@ -16,10 +16,10 @@ loop-form-preserved c =
     let e = drop-next c.args.extents.now c.loop-form.form-index n (omega arith) c.form-item.is in
     let cap = 2 ^ 64 - 1 in
     record {
-      scoped = (and_parts (items_scoped (length s) 0 n) (extents_scoped (length s) rest) (ap (extents_scoped (length s)) (sym e) ∙ c.loop-form.invariant.scoped)).1;
+      counted = (and_parts (is_counted s n) (all_counted s rest) (ap (all_counted s) (sym e) ∙ c.loop-form.invariant.counted)).1;
       most = omega (arith, c.saturating_mul-words.ensures);
       words = product-next c.loop-form.words (max (extent n s) 1) (word_product (extents_at rest s)) cap c.saturating_mul-words.result
-          (c.saturating_mul-words.ensures ∙ ap (λ x. min (c.loop-form.words * x) cap) (c.max.ensures ∙ ap (λ x. max x 1) c.in_ok-extent.ensures)) (word_product-least (extents_at rest s))
+          (c.saturating_mul-words.ensures ∙ ap (λ x. min (c.loop-form.words * x) cap) (c.max.ensures ∙ ap (λ x. max x 1) c.extent.ensures)) (word_product-least (extents_at rest s))
           ∙ ap (λ ns. min (c.loop-form.words * word_product (extents_at ns s)) cap) (sym e)
           ∙ c.loop-form.invariant.words;
     }
