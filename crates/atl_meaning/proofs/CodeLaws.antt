@@ -202,10 +202,10 @@ module _ (s : List ℕ) where
   both-exact w a b r (inr (inr (inr (inl i)))) g h = (counted-Mul w a b i g, exact-Mul w a b r i h)
   both-exact w a b r (inr (inr (inr (inr i)))) g h = (counted-Concat w a b i g, exact-Concat w a b r i h)
 
-  counted-Flatten : (w e : Term) → w ≡ Flatten e → counted s w ≡ true → counted s e ≡ true
+  pub counted-Flatten : (w e : Term) → w ≡ Flatten e → counted s w ≡ true → counted s e ≡ true
   counted-Flatten w e i h = sym (ap (counted s) (i ∙ Flatten-is e) ∙ fold-flatten Bool (counted_step s) e) ∙ h
 
-  exact-Flatten : (w e : Term) (r : List ℕ) → w ≡ Flatten e → exact s w r ≡ true → exact s e r ≡ true
+  pub exact-Flatten : (w e : Term) (r : List ℕ) → w ≡ Flatten e → exact s w r ≡ true → exact s e r ≡ true
   exact-Flatten w e r i h = sym (ap (λ w. exact s w r) (i ∙ Flatten-is e) ∙ ap (λ f. f r) (fold-flatten (List ℕ → Bool) (exact_step s) e)) ∙ h
 
   counted-Transpose : (w e : Term) → w ≡ Transpose e → counted s w ≡ true → counted s e ≡ true

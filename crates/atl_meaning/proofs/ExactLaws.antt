@@ -2,7 +2,7 @@
 use Rattle.std.proofs.Common.{◌≡◌, ℕ, zero, suc, ◌-◌, ◌^◌, ◌<◌, ◌≤◌, List, [], ◌∷◌, length, Bool, true, false, ◌||◌, not, nat_le, nat_lt, max, Option, Some, None, refl, ap, sym, ◌∙◌, subst, arith, if◌then◌else◌}
 use Rattle.std.specs.Prelude.{ℤ, pos, negsuc, is_some}
 use Rattle.std.specs.Int.RustNames.{unsigned_abs}
-use Rattle.std.proofs.lemmas.Bool.{and_from, and_parts, or_parts, true≢false}
+use Rattle.std.proofs.lemmas.Bool.{and_from, and_parts, lt-ltb, ltb-true, or_parts, true≢false}
 use Rattle.std.proofs.lemmas.Bool.Decides.{nat_tests}
 use Rattle.std.proofs.lemmas.List.{length-map}
 use Rattle.affine_index.specs.Condition.{all_scoped, cmp_form}
@@ -27,14 +27,11 @@ pub below-at : (n : ℕ) (f : ℕ → Bool) (i : ℕ) → all_below n f ≡ true
 below-at zero f i h l = absurd (omega (arith, l))
 below-at (suc n) f i h l = by (nat_lt i n) refl (below-at n f i (and_parts (all_below n f) (f n) h).0)
   where
-    lt_of : (a b : ℕ) → nat_lt a b ≡ true → a < b
-    lt_of a b h = grind (arith, nat_tests)
-
     last : (a b : ℕ) → nat_lt a b ≡ false → a < suc b → b ≡ a
     last a b h l = grind (arith, nat_tests)
 
     by : (b : Bool) → nat_lt i n ≡ b → (i < n → f i ≡ true) → f i ≡ true
-    by true e earlier = earlier (lt_of i n e)
+    by true e earlier = earlier (ltb-true i n e)
     by false e earlier = subst (λ (k : ℕ). f k ≡ true) (last i n e l) (and_parts (all_below n f) (f n) h).1
 
 pub below-all : (n : ℕ) (f : ℕ → Bool) → ((i : ℕ) → i < n → f i ≡ true) → all_below n f ≡ true
@@ -55,9 +52,6 @@ within-none k h = absurd (omega (arith, h))
 
 small-of : (m : ℕ) → nat_le (2 ^ 63) m ≡ false → m < 2 ^ 63
 small-of m h = grind (arith, nat_tests)
-
-lt-true : (a b : ℕ) → a < b → nat_lt a b ≡ true
-lt-true a b h = grind (arith, nat_tests)
 
 count-most : (z : ℤ) → count_of z ≤ unsigned_abs z
 count-most (pos n) = omega arith
@@ -87,10 +81,13 @@ module _ (s : List ℕ) where
   extent-most : (n : Items) → items_scoped (length s) 0 n ≡ true → extent n s ≤ magnitude (at_least_one s) [] n
   extent-most n g = omega (arith, count-most (items_value s [] n), form-most s [] (at_least_one s) [] (within-floor s) within-none n (scoped-there [] [] n refl g))
 
+  pub extent-small : (n : Items) → items_scoped (length s) 0 n ≡ true → is_large (at_least_one s) [] n ≡ false → extent n s < 2 ^ 63
+  extent-small n g l = omega (arith, extent-most n g, small-of (magnitude (at_least_one s) [] n) l)
+
   pub counted-of : (n : Items) → items_scoped (length s) 0 n ≡ true → is_large (at_least_one s) [] n ≡ false → is_counted s n ≡ true
   counted-of n g l =
       and_from (is_exact s [] n) (nat_lt (extent n s) (2 ^ 63)) (exact-of [] [] n refl within-none g l)
-      (lt-true (extent n s) (2 ^ 63) (omega (arith, extent-most n g, small-of (magnitude (at_least_one s) [] n) l)))
+      (lt-ltb (extent n s) (2 ^ 63) (extent-small n g l))
 
   -- a value below an extent is within the maximum of its index variable
   pub index-within : (n : Items) (i : ℕ) → items_scoped (length s) 0 n ≡ true → is_large (at_least_one s) [] n ≡ false → i < extent n s → (i ≤ largest_index s n) × (1 ≤ largest_index s n)

@@ -1,6 +1,8 @@
 pub mod CodeLaws
 pub mod DenotedLaws
 pub mod ExactLaws
+pub mod ExtentBounds
+pub mod FitLaws
 pub mod FormBounds
 pub mod FormScopes
 pub mod ListLaws
@@ -9,6 +11,7 @@ pub mod ModuleLaws
 pub mod PlaceLaws
 pub mod ScopeLaws
 pub mod ScopeLists
+pub mod ShapeCode
 pub mod SurveyCode
 pub mod SurveyExact
 pub mod SurveyLaws

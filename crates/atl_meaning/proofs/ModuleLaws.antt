@@ -1,18 +1,19 @@
 -- Sound modules at allowed sizes.
-use Rattle.std.proofs.Common.{◌≡◌, ℕ, zero, suc, ◌+◌, ◌<◌, ◌≤◌, min, List, [], ◌∷◌, ◌++◌, length, map, take, get_or, add-one, arith, refl, ap, sym, ◌∙◌, subst, true, ◌&&◌, Ok, Err}
+use Rattle.std.proofs.Common.{◌≡◌, ℕ, zero, suc, ◌+◌, ◌<◌, ◌≤◌, min, List, [], ◌∷◌, ◌++◌, length, map, take, get_or, add-one, arith, refl, ap, sym, ◌∙◌, subst, true, ◌&&◌, None}
 use Rattle.std.specs.Prelude.{IsOk, All}
-use Rattle.std.proofs.lemmas.Bool.{and_parts, false≢true}
+use Rattle.std.proofs.lemmas.Bool.{and_parts}
 use Rattle.affine_index.specs.Condition.{all_scoped}
 use Rattle.term_tree.specs.declared.term.InputDecl.{InputDecl}
 use Rattle.term_tree.specs.declared.term.Module.{Module}
 use Rattle.term_tree.specs.declared.term.OutputDecl.{OutputDecl}
 use Rattle.term_tree.specs.declared.term.SizeDecl.{SizeDecl}
-use Rattle.term_tree.specs.Meaning.{Bound, den}
-use Rattle.term_tree.specs.Modules.{Allowed, IsSound, IsWithin, extents_at, extents_scoped, input_shapes, inputs_bound, inputs_scoped, module_den, outputs_scoped}
+use Rattle.term_tree.specs.Meaning.{Bound, den, extents_of}
+use Rattle.term_tree.specs.Modules.{Allowed, AreInputs, IsSound, IsWithin, extents_at, extents_scoped, input_shapes, inputs_bound, inputs_scoped, module_den, outputs_scoped}
 use Rattle.term_tree.specs.Scope.{term_scoped}
-use Rattle.term_tree.specs.Shape.{Extents, Shaped, shape_of}
+use Rattle.term_tree.specs.Shape.{Extents, shape_of}
 use Rattle.term_tree.specs.Tensors.{Tensor}
-use Rattle.atl_meaning.specs.Denoted.{outputs_tensors}
+use Rattle.shape_rules.proofs.ModuleLaws.{bound_extents, inputs_values, sound_goals}
+use Rattle.atl_meaning.specs.Denoted.{outputs_fit, outputs_tensors}
 use Rattle.atl_meaning.specs.Forms.{each_scoped, shapes_of}
 use Rattle.atl_meaning.specs.Scopes.{outputs_ready, placed, sized}
 use Rattle.atl_meaning.specs.Surveyed.{outputs_surveyed}
@@ -20,8 +21,10 @@ use Rattle.atl_meaning.specs.Turns.{module_turns, outputs_turns, turn_folds}
 use Rattle.atl_meaning.specs.Words.{first_big_input, first_big_output, first_of, module_big}
 use Rattle.atl_meaning.specs.declared.tensor.Tensor.{Tensor as Value}
 use Rattle.atl_meaning.proofs.DenotedLaws.{tensor-is}
+use Rattle.atl_meaning.proofs.ExactLaws.{first-none}
+use Rattle.atl_meaning.proofs.ExtentBounds.{outputs-fit-of}
 use Rattle.atl_meaning.proofs.ScopeLaws.{and-true, placed-of, sized-of}
-use Rattle.atl_meaning.proofs.SurveyLaws.{big-is}
+use Rattle.atl_meaning.proofs.SurveyLaws.{big-is, ok-value}
 use Rattle.atl_meaning.proofs.TurnFold.{turns-is}
 
 within-length : (ds : List SizeDecl) (s : List ℕ) → IsWithin ds s → length s ≡ length ds
@@ -29,6 +32,12 @@ within-length [] [] h = refl
 within-length [] (n ∷ s) h = absurd h
 within-length (d ∷ ds) [] h = absurd h
 within-length (d ∷ ds) (n ∷ s) h = ap suc (within-length ds s h.2)
+
+pub shapes-scoped : (k : ℕ) (ds : List InputDecl) → inputs_scoped k ds ≡ true → each_scoped k (shapes_of ds) ≡ true
+shapes-scoped k [] h = refl
+shapes-scoped k (d ∷ ds) h =
+    let p = and_parts (extents_scoped k d.extents) (inputs_scoped k ds) h in
+    and-true (extents_scoped k d.extents) (each_scoped k (shapes_of ds)) p.0 (shapes-scoped k ds p.1)
 
 module _ (m : Module) (s : List ℕ) (sound : IsSound m) (allowed : Allowed m s) where
   count : length m.sizes ≡ length s
@@ -52,10 +61,6 @@ module _ (m : Module) (s : List ℕ) (sound : IsSound m) (allowed : Allowed m s)
   pub outputs-ready : outputs_ready (length s) m.outputs ≡ true
   outputs-ready = subst (λ (k : ℕ). outputs_ready k m.outputs ≡ true) count (each-ready (length m.sizes) (length m.inputs) m.outputs scoped.1)
 
-  ok-value : (x : Shaped) → IsOk x → (ns : Extents) × (x ≡ Ok ns)
-  ok-value (Ok ns) h = (ns, refl)
-  ok-value (Err misfit) h = absurd (false≢true h)
-
   each-big : (os : List OutputDecl) (ts : List Extents) → All (λ (o : OutputDecl). IsOk (shape_of o.term ts)) os → outputs_surveyed s os ts ≡ first_big_output os s ts
   each-big [] ts h = refl
   each-big (o ∷ os) ts h =
@@ -65,6 +70,17 @@ module _ (m : Module) (s : List ℕ) (sound : IsSound m) (allowed : Allowed m s)
   -- the code's first input or node is that of the definition
   pub big-of : first_of (first_big_input m.inputs s) (outputs_surveyed s m.outputs (shapes_of m.inputs)) ≡ module_big m s
   big-of = ap (first_of (first_big_input m.inputs s)) (each-big m.outputs (input_shapes m) sound.shaped)
+
+  -- where nothing is too big, each extent that is reckoned is below 2^64
+  pub outputs-fit : (inputs : List Tensor) → AreInputs m.inputs s inputs → first_of (first_big_input m.inputs s) (outputs_surveyed s m.outputs (shapes_of m.inputs)) ≡ None
+      → outputs_fit s m.outputs (extents_of (inputs_bound m.inputs s inputs)) ≡ true
+  outputs-fit inputs are none =
+      let goals = sound_goals m sound s allowed in
+      let nones = first-none s (first_big_input m.inputs s) (outputs_surveyed s m.outputs (shapes_of m.inputs)) none in
+      ap (outputs_fit s m.outputs) (bound_extents s m.inputs inputs are)
+      ∙ outputs-fit-of s m.outputs (length m.inputs) (input_shapes m) (map (λ d. extents_at d.extents s) m.inputs)
+      (subst (λ (k : ℕ). outputs_scoped k (length m.inputs) m.outputs ≡ true) count scoped.1) sound.shaped goals.1
+      (shapes-scoped (length s) m.inputs inputs-ready) (inputs_values s m.inputs goals.0) nones.1
 
 turns-each : (s : List ℕ) (os : List OutputDecl) → turn_folds s os ≡ outputs_turns os s
 turns-each s [] = refl
@@ -103,11 +119,5 @@ bound-all f (d ∷ ds) s [] zero h = refl
 bound-all f (d ∷ ds) s [] (suc k) h = refl
 bound-all f (d ∷ ds) s (v ∷ vs) zero h = absurd (omega (arith, h))
 bound-all f (d ∷ ds) s (v ∷ vs) (suc k) h = ap (λ t. (extents_at d.extents s, f v) ∷ t) (bound-all f ds s vs k (omega (arith, h)))
-
-pub shapes-scoped : (k : ℕ) (ds : List InputDecl) → inputs_scoped k ds ≡ true → each_scoped k (shapes_of ds) ≡ true
-shapes-scoped k [] h = refl
-shapes-scoped k (d ∷ ds) h =
-    let p = and_parts (extents_scoped k d.extents) (inputs_scoped k ds) h in
-    and-true (extents_scoped k d.extents) (each_scoped k (shapes_of ds)) p.0 (shapes-scoped k ds p.1)
 
 pub ruleset shape_laws = (shapes-scoped)

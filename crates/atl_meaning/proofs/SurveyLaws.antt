@@ -1,6 +1,7 @@
 -- The fold's extents are the shape, and the node that it finds is the first that is too big.
 use Rattle.std.proofs.Common.{◌≡◌, ℕ, ◌∷◌, List, [], length, Bool, true, false, not, nat_le, ◌==◌, Option, None, Ok, Err, refl, ap, sym, ◌∙◌, if◌then◌else◌}
-use Rattle.std.specs.Prelude.{get_or, pos}
+use Rattle.std.specs.Prelude.{IsOk, get_or, pos}
+use Rattle.std.proofs.lemmas.Bool.{false≢true}
 use Rattle.affine_index.specs.Form.{literal_form}
 use Rattle.affine_index.specs.Product.{product_of}
 use Rattle.affine_index.specs.Sum.{difference_of, sum_of}
@@ -15,8 +16,12 @@ use Rattle.atl_meaning.specs.Surveyed.{Survey, surveyed, surveyed_step}
 use Rattle.atl_meaning.specs.Words.{any_large_comparison, at_least_one, first_big, first_of, is_large, largest_index, too_big, words_at}
 use Rattle.term_tree.proofs.Folds.{fold-lit, fold-t_var, fold-word_of, fold-index, fold-gen, fold-sum, fold-guard, fold-let_in, fold-add, fold-sub, fold-mul, fold-concat, fold-flatten, fold-split, fold-transpose, fold-trunc_l, fold-trunc_r, fold-pad_l, fold-pad_r}
 
+pub ok-value : (x : Shaped) → IsOk x → (ns : Extents) × (x ≡ Ok ns)
+ok-value (Ok ns) h = (ns, refl)
+ok-value (Err misfit) h = absurd (false≢true h)
+
 -- a child of a node with a shape has a shape
-child-shape : (k : ℕ) (x : Shaped) (f : Extents → Shaped) (ns : Extents) → with_child k x f ≡ Ok ns → (ms : Extents) × (x ≡ Ok ms) × (f ms ≡ Ok ns)
+pub child-shape : (k : ℕ) (x : Shaped) (f : Extents → Shaped) (ns : Extents) → with_child k x f ≡ Ok ns → (ms : Extents) × (x ≡ Ok ms) × (f ms ≡ Ok ns)
 child-shape k (Ok ms) f ns h = (ms, refl, h)
 child-shape k (Err misfit) f ns h = absurd (cc)
 

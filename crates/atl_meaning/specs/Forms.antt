@@ -6,7 +6,7 @@ use Rattle.affine_index.specs.Product.{product_of}
 use Rattle.affine_index.specs.Sum.{difference_of, sum_of}
 use Rattle.term_tree.specs.Modules.{extents_scoped}
 use Rattle.term_tree.specs.declared.term.InputDecl.{InputDecl}
-use Rattle.term_tree.specs.Shape.{Extents, tiles}
+use Rattle.term_tree.specs.Shape.{Extents, each_fits, each_short, tiles}
 
 abbrev pub concatenated_forms : Extents → Extents → Extents
 concatenated_forms [] ms = []
@@ -32,6 +32,10 @@ shortened_forms a (n ∷ ns) = difference_of n a ∷ ns
 abbrev pub lengthened_forms : Items → Extents → Extents
 lengthened_forms a [] = []
 lengthened_forms a (n ∷ ns) = sum_of n a ∷ ns
+
+-- each form is within the limits
+abbrev pub each_within : Extents → Bool
+each_within ns = each_fits ns && each_short ns
 
 -- all extents of all name sizes alone
 abbrev pub each_scoped : ℕ → List Extents → Bool

@@ -6,7 +6,7 @@ ghost use Rattle.affine_index.specs.Condition.{all_hold};
 ghost use Rattle.affine_index.specs.Value.{items_value};
 ghost use Rattle.term_tree.specs.Tensors.{Word, by_places, copies, drop_last, from_rows, joined, rows_of, tabulate, total, zeros};
 ghost use Rattle.term_tree.specs.Meaning.{chunks, columns, extent, head_of, row_at, tail_of, word_of};
-ghost use Rattle.atl_meaning.specs.Denoted.{body_in, extents_in, tensor_in};
+ghost use Rattle.atl_meaning.specs.Denoted.{body_in, extents_in, fits_in, tensor_in};
 ghost use Rattle.atl_meaning.specs.Operations.{on_words};
 ghost use Rattle.atl_meaning.specs.Exact.{all_exact, counted, exact, exact_below, is_counted, is_exact};
 ghost use Rattle.atl_meaning.specs.Values.{meant};
@@ -14,7 +14,6 @@ ghost use Rattle.atl_meaning.specs.Values.{meant};
 use crate::binding::Binding;
 use crate::build::{by_places, copy, zeros};
 use crate::extents::{chunk_count, extents};
-use crate::fault::MeaningFault;
 use crate::operation::Operation;
 use crate::read::Read;
 use crate::reading::{read, variable};
@@ -28,7 +27,7 @@ use crate::values::{extent, holds, value, word};
 use crate::variables::Variables;
 use affine_index::{Aff, Cond};
 use sqlite_items::Items;
-use std::alloc::Global;
+use std::alloc::{AllocError, Global};
 use term_tree::Term;
 
 /// The word of an index.
@@ -45,13 +44,14 @@ fn zeros_like(
     sizes: &[u64],
     bindings: &mut Stack<Binding>,
     term: &Term,
-) -> Result<Tensor, MeaningFault>
-    requires { counted sizes.now term.now ≡ true }
+) -> Result<Tensor, AllocError>
+    requires counted { counted sizes.now term.now ≡ true }
+    requires fits { fits_in sizes.now term.now bindings.old ≡ true }
     ensures value { IfOk result (λ v. meant v ≡ zeros (extents_in sizes.now term.now bindings.old)) }
     ensures bindings { OnOk result (bindings.new ≡ bindings.old) }
 {
     let found = extents(alloc, sizes, bindings, term)?;
-    Ok(zeros(alloc, found.as_slice())?)
+    zeros(alloc, found.as_slice())
 }
 
 /// Zeros of the extents of a row of a term.
@@ -60,13 +60,14 @@ fn zero_row(
     sizes: &[u64],
     bindings: &mut Stack<Binding>,
     term: &Term,
-) -> Result<Tensor, MeaningFault>
-    requires { counted sizes.now term.now ≡ true }
+) -> Result<Tensor, AllocError>
+    requires counted { counted sizes.now term.now ≡ true }
+    requires fits { fits_in sizes.now term.now bindings.old ≡ true }
     ensures value { IfOk result (λ v. meant v ≡ zeros (tail_of (extents_in sizes.now term.now bindings.old))) }
     ensures bindings { OnOk result (bindings.new ≡ bindings.old) }
 {
     let found = extents(alloc, sizes, bindings, term)?;
-    Ok(zeros(alloc, tail_of(found.as_slice()))?)
+    zeros(alloc, tail_of(found.as_slice()))
 }
 
 /// The row of a number of the tensor of a term.
@@ -77,8 +78,9 @@ fn row_or_zeros(
     term: &Term,
     tensor: &Tensor,
     number: i128,
-) -> Result<Tensor, MeaningFault>
-    requires { counted sizes.now term.now ≡ true }
+) -> Result<Tensor, AllocError>
+    requires counted { counted sizes.now term.now ≡ true }
+    requires fits { fits_in sizes.now term.now bindings.old ≡ true }
     ensures value { IfOk result (λ v. meant v ≡ row_at (rows_of (meant tensor.now)) number (zeros (tail_of (extents_in sizes.now term.now bindings.old)))) }
     ensures bindings { OnOk result (bindings.new ≡ bindings.old) }
 {
@@ -96,21 +98,22 @@ fn chunked(
     k: u32,
     term: &Term,
     tensor: &Tensor,
-) -> Result<Tensor, MeaningFault>
+) -> Result<Tensor, AllocError>
     requires counted { counted sizes.now term.now ≡ true }
+    requires fits { fits_in sizes.now term.now bindings.old ≡ true }
     requires positive { 0 < k }
     ensures value { IfOk result (λ v. meant v ≡ from_rows (chunks ((head_of (extents_in sizes.now term.now bindings.old) + k - 1) / k) k (zeros (tail_of (extents_in sizes.now term.now bindings.old))) (rows_of (meant tensor.now)))) }
     ensures bindings { OnOk result (bindings.new ≡ bindings.old) }
 {
     let found = extents(alloc, sizes, bindings, term)?;
-    let count = chunk_count(head_of(found.as_slice()), k)?;
-    Ok(split(
+    let count = chunk_count(head_of(found.as_slice()), k);
+    split(
         alloc,
         count,
         u64::from(k),
         tail_of(found.as_slice()),
         tensor,
-    )?)
+    )
 }
 
 /// The columns of the tensor of a term.
@@ -120,14 +123,15 @@ fn transposed(
     bindings: &mut Stack<Binding>,
     term: &Term,
     tensor: &Tensor,
-) -> Result<Tensor, MeaningFault>
-    requires { counted sizes.now term.now ≡ true }
+) -> Result<Tensor, AllocError>
+    requires counted { counted sizes.now term.now ≡ true }
+    requires fits { fits_in sizes.now term.now bindings.old ≡ true }
     ensures value { IfOk result (λ v. meant v ≡ from_rows (columns (head_of (tail_of (extents_in sizes.now term.now bindings.old))) (zeros (tail_of (tail_of (extents_in sizes.now term.now bindings.old)))) (rows_of (meant tensor.now)))) }
     ensures bindings { OnOk result (bindings.new ≡ bindings.old) }
 {
     let found = extents(alloc, sizes, bindings, term)?;
     let rest = tail_of(found.as_slice());
-    Ok(transpose(alloc, head_of(rest), tail_of(rest), tensor)?)
+    transpose(alloc, head_of(rest), tail_of(rest), tensor)
 }
 
 /// All but the first rows.
@@ -136,11 +140,11 @@ fn shortened_first(
     sizes: &[u64],
     count: &Aff,
     tensor: &Tensor,
-) -> Result<Tensor, MeaningFault>
+) -> Result<Tensor, AllocError>
     requires { IsTrue (is_counted sizes.now count.now) }
     ensures { IfOk result (λ v. meant v ≡ from_rows (drop (extent count.now sizes.now) (rows_of (meant tensor.now)))) }
 {
-    Ok(without_first(alloc, extent(count, sizes), tensor)?)
+    without_first(alloc, extent(count, sizes), tensor)
 }
 
 /// All but the last rows.
@@ -149,11 +153,11 @@ fn shortened_last(
     sizes: &[u64],
     count: &Aff,
     tensor: &Tensor,
-) -> Result<Tensor, MeaningFault>
+) -> Result<Tensor, AllocError>
     requires { IsTrue (is_counted sizes.now count.now) }
     ensures { IfOk result (λ v. meant v ≡ from_rows (drop_last (extent count.now sizes.now) (rows_of (meant tensor.now)))) }
 {
-    Ok(without_last(alloc, extent(count, sizes), tensor)?)
+    without_last(alloc, extent(count, sizes), tensor)
 }
 
 /// Zero rows before the tensor of a term.
@@ -164,19 +168,20 @@ fn padded_before(
     count: &Aff,
     term: &Term,
     tensor: Tensor,
-) -> Result<Tensor, MeaningFault>
+) -> Result<Tensor, AllocError>
     requires count { IsTrue (is_counted sizes.now count.now) }
     requires counted { counted sizes.now term.now ≡ true }
+    requires fits { fits_in sizes.now term.now bindings.old ≡ true }
     ensures value { IfOk result (λ v. meant v ≡ from_rows (copies (extent count.now sizes.now) (zeros (tail_of (extents_in sizes.now term.now bindings.old))) ++ rows_of (meant tensor))) }
     ensures bindings { OnOk result (bindings.new ≡ bindings.old) }
 {
     let found = extents(alloc, sizes, bindings, term)?;
-    Ok(zeros_before(
+    zeros_before(
         alloc,
         extent(count, sizes),
         tail_of(found.as_slice()),
         tensor,
-    )?)
+    )
 }
 
 /// Zero rows behind the tensor of a term.
@@ -187,19 +192,20 @@ fn padded_behind(
     count: &Aff,
     term: &Term,
     tensor: Tensor,
-) -> Result<Tensor, MeaningFault>
+) -> Result<Tensor, AllocError>
     requires count { IsTrue (is_counted sizes.now count.now) }
     requires counted { counted sizes.now term.now ≡ true }
+    requires fits { fits_in sizes.now term.now bindings.old ≡ true }
     ensures value { IfOk result (λ v. meant v ≡ from_rows (rows_of (meant tensor) ++ copies (extent count.now sizes.now) (zeros (tail_of (extents_in sizes.now term.now bindings.old))))) }
     ensures bindings { OnOk result (bindings.new ≡ bindings.old) }
 {
     let found = extents(alloc, sizes, bindings, term)?;
-    Ok(zeros_behind(
+    zeros_behind(
         alloc,
         extent(count, sizes),
         tail_of(found.as_slice()),
         tensor,
-    )?)
+    )
 }
 
 /// A row for each value of the innermost variable.
@@ -211,9 +217,10 @@ fn rows(
     bindings: &mut Stack<Binding>,
     count: &Aff,
     body: &Term,
-) -> Result<Items<Tensor>, MeaningFault>
+) -> Result<Items<Tensor>, AllocError>
     requires count { IsTrue (is_counted sizes.now count.now) }
     requires counted { counted sizes.now body.now ≡ true }
+    requires fits { fits_in sizes.now body.now bindings.old ≡ true }
     requires exact { exact_below sizes.now (extent count.now sizes.now) body.now vars.old ≡ true }
     ensures value { IfOk result (λ rows. map meant rows ≡ tabulate (extent count.now sizes.now) (body_in sizes.now body.now vars.old bindings.old)) }
     ensures vars { OnOk result (vars.new ≡ vars.old) }
@@ -239,8 +246,9 @@ fn summed(
     count: u64,
     body: &Term,
     start: Tensor,
-) -> Result<Tensor, MeaningFault>
+) -> Result<Tensor, AllocError>
     requires counted { counted sizes.now body.now ≡ true }
+    requires fits { fits_in sizes.now body.now bindings.old ≡ true }
     requires exact { exact_below sizes.now count body.now vars.old ≡ true }
     ensures value { IfOk result (λ v. meant v ≡ total (meant start) (tabulate count (body_in sizes.now body.now vars.old bindings.old))) }
     ensures vars { OnOk result (vars.new ≡ vars.old) }
@@ -266,9 +274,10 @@ fn sum(
     bindings: &mut Stack<Binding>,
     count: &Aff,
     body: &Term,
-) -> Result<Tensor, MeaningFault>
+) -> Result<Tensor, AllocError>
     requires count { IsTrue (is_counted sizes.now count.now) }
     requires counted { counted sizes.now body.now ≡ true }
+    requires fits { fits_in sizes.now body.now bindings.old ≡ true }
     requires exact { exact_below sizes.now (extent count.now sizes.now) body.now vars.old ≡ true }
     ensures value { IfOk result (λ v. meant v ≡ total (zeros (extents_in sizes.now body.now bindings.old)) (tabulate (extent count.now sizes.now) (body_in sizes.now body.now vars.old bindings.old))) }
     ensures vars { OnOk result (vars.new ≡ vars.old) }
@@ -287,9 +296,10 @@ fn guarded(
     bindings: &mut Stack<Binding>,
     condition: &Cond,
     body: &Term,
-) -> Result<Tensor, MeaningFault>
+) -> Result<Tensor, AllocError>
     requires condition { IsTrue (all_exact sizes.now vars.old condition.now.all) }
     requires counted { counted sizes.now body.now ≡ true }
+    requires fits { fits_in sizes.now body.now bindings.old ≡ true }
     requires exact { exact sizes.now body.now vars.old ≡ true }
     ensures value { IfOk result (λ v. meant v ≡ (if all_hold sizes.now vars.old condition.now.all then tensor_in sizes.now body.now vars.old bindings.old else zeros (extents_in sizes.now body.now bindings.old))) }
     ensures vars { OnOk result (vars.new ≡ vars.old) }
@@ -311,8 +321,9 @@ fn under(
     bindings: &mut Stack<Binding>,
     body: &Term,
     definition: Binding,
-) -> Result<Tensor, MeaningFault>
+) -> Result<Tensor, AllocError>
     requires counted { counted sizes.now body.now ≡ true }
+    requires fits { fits_in sizes.now body.now (definition ∷ bindings.old) ≡ true }
     requires exact { exact sizes.now body.now vars.old ≡ true }
     ensures value { IfOk result (λ v. meant v ≡ tensor_in sizes.now body.now vars.old (definition ∷ bindings.old)) }
     ensures vars { OnOk result (vars.new ≡ vars.old) }
@@ -334,15 +345,16 @@ fn with_second(
     second: &Term,
     operation: Operation,
     first: Tensor,
-) -> Result<Tensor, MeaningFault>
+) -> Result<Tensor, AllocError>
     requires counted { counted sizes.now second.now ≡ true }
+    requires fits { fits_in sizes.now second.now bindings.old ≡ true }
     requires exact { exact sizes.now second.now vars.old ≡ true }
     ensures value { IfOk result (λ v. meant v ≡ by_places (on_words operation) (meant first) (tensor_in sizes.now second.now vars.old bindings.old)) }
     ensures vars { OnOk result (vars.new ≡ vars.old) }
     ensures bindings { OnOk result (bindings.new ≡ bindings.old) }
 {
     let second = evaluate(alloc, sizes, vars, bindings, second)?;
-    Ok(by_places(alloc, operation, &first, &second)?)
+    by_places(alloc, operation, &first, &second)
 }
 
 /// The rows of a tensor, then those of a term.
@@ -354,15 +366,16 @@ fn followed_by(
     bindings: &mut Stack<Binding>,
     second: &Term,
     first: Tensor,
-) -> Result<Tensor, MeaningFault>
+) -> Result<Tensor, AllocError>
     requires counted { counted sizes.now second.now ≡ true }
+    requires fits { fits_in sizes.now second.now bindings.old ≡ true }
     requires exact { exact sizes.now second.now vars.old ≡ true }
     ensures value { IfOk result (λ v. meant v ≡ from_rows (rows_of (meant first) ++ rows_of (tensor_in sizes.now second.now vars.old bindings.old))) }
     ensures vars { OnOk result (vars.new ≡ vars.old) }
     ensures bindings { OnOk result (bindings.new ≡ bindings.old) }
 {
     let second = evaluate(alloc, sizes, vars, bindings, second)?;
-    Ok(concat(alloc, first, second)?)
+    concat(alloc, first, second)
 }
 
 /// A row of a term; of a variable, or a row of one, it is read in place.
@@ -374,8 +387,9 @@ fn row(
     bindings: &mut Stack<Binding>,
     term: &Term,
     index: &Aff,
-) -> Result<Tensor, MeaningFault>
+) -> Result<Tensor, AllocError>
     requires counted { counted sizes.now term.now ≡ true }
+    requires fits { fits_in sizes.now term.now bindings.old ≡ true }
     requires exact { exact sizes.now term.now vars.old ≡ true }
     requires index { IsTrue (is_exact sizes.now vars.old index.now) }
     ensures value { IfOk result (λ v. meant v ≡ row_at (rows_of (tensor_in sizes.now term.now vars.old bindings.old)) (items_value sizes.now vars.old index.now) (zeros (tail_of (extents_in sizes.now term.now bindings.old)))) }
@@ -402,8 +416,9 @@ pub fn evaluate(
     vars: &mut Variables,
     bindings: &mut Stack<Binding>,
     term: &Term,
-) -> Result<Tensor, MeaningFault>
+) -> Result<Tensor, AllocError>
     requires counted { counted sizes.now term.now ≡ true }
+    requires fits { fits_in sizes.now term.now bindings.old ≡ true }
     requires exact { exact sizes.now term.now vars.old ≡ true }
     ensures value { IfOk result (λ v. meant v ≡ tensor_in sizes.now term.now vars.old bindings.old) }
     ensures vars { OnOk result (vars.new ≡ vars.old) }
@@ -471,7 +486,7 @@ pub fn evaluate(
         }
         Term::Flatten(e) => {
             let tensor = evaluate(alloc, sizes, vars, bindings, e.get())?;
-            Ok(flatten(alloc, &tensor)?)
+            flatten(alloc, &tensor)
         }
         Term::Split(k, e) => {
             let tensor = evaluate(alloc, sizes, vars, bindings, e.get())?;

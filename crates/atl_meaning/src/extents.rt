@@ -1,26 +1,22 @@
-//! The extents of a term at the sizes.
-//!
-//! A number that leaves 64 bits is answered as want of memory. By argument, not by proof, none does once no node is too
-//! big.
+//! The extents of a term at the sizes, each of which is below 2^64.
 
-ghost use Rattle.std.specs.Prelude.{◌≡◌, ◌+◌, ◌-◌, ◌*◌, ◌/◌, ◌<◌, ◌∷◌, [], length, get_or, true, IfOk, IsTrue, OnOk};
+ghost use Rattle.std.specs.Prelude.{◌≡◌, ◌+◌, ◌-◌, ◌*◌, ◌/◌, ◌^◌, ◌<◌, ◌∷◌, [], length, get_or, true, IfOk, IsTrue, OnOk};
 ghost use Rattle.term_tree.specs.Meaning.{extent, extents_of, head_of, tail_of};
-ghost use Rattle.atl_meaning.specs.Denoted.{denoted, scope};
+ghost use Rattle.atl_meaning.specs.Denoted.{denoted, fits_in, scope};
 ghost use Rattle.atl_meaning.specs.Exact.{counted, is_counted};
 
 use crate::binding::Binding;
-use crate::fault::MeaningFault;
 use crate::reshape::{head_of, tail_of};
 use crate::stack::Stack;
 use crate::tensor::Tensor;
 use crate::values::extent;
 use affine_index::Aff;
 use sqlite_items::Items;
-use std::alloc::Global;
+use std::alloc::{AllocError, Global};
 use term_tree::Term;
 
 /// An extent in front of others.
-fn in_front(alloc: Global, first: u64, rest: &[u64]) -> Result<Items<u64>, MeaningFault>
+fn in_front(alloc: Global, first: u64, rest: &[u64]) -> Result<Items<u64>, AllocError>
     ensures { IfOk result (λ ds. ds ≡ first ∷ rest.now) }
 {
     let mut extents = Items::new(alloc);
@@ -29,39 +25,16 @@ fn in_front(alloc: Global, first: u64, rest: &[u64]) -> Result<Items<u64>, Meani
     Ok(extents)
 }
 
-fn sum(a: u64, b: u64) -> Result<u64, MeaningFault>
-    ensures { IfOk result (λ n. n ≡ a + b) }
-{
-    match a.checked_add(b) {
-        Some(sum) => Ok(sum),
-        None => Err(MeaningFault::Memory),
-    }
-}
-
-fn product(a: u64, b: u64) -> Result<u64, MeaningFault>
-    ensures { IfOk result (λ n. n ≡ a * b) }
-{
-    match a.checked_mul(b) {
-        Some(product) => Ok(product),
-        None => Err(MeaningFault::Memory),
-    }
-}
-
 /// How many chunks of k hold so many rows.
-pub fn chunk_count(count: u64, k: u32) -> Result<u64, MeaningFault>
+pub fn chunk_count(count: u64, k: u32) -> u64
     requires { 0 < k }
-    ensures { IfOk result (λ n. n ≡ (count + k - 1) / k) }
+    ensures { result ≡ (count + k - 1) / k }
 {
-    let k = u64::from(k);
-    Ok((sum(count, k)? - 1) / k)
+    count.div_ceil(u64::from(k))
 }
 
 /// The extents of a variable; of one that is not in scope, none.
-fn of_variable(
-    alloc: Global,
-    bindings: &Stack<Binding>,
-    var: u32,
-) -> Result<Items<u64>, MeaningFault>
+fn of_variable(alloc: Global, bindings: &Stack<Binding>, var: u32) -> Result<Items<u64>, AllocError>
     ensures { IfOk result (λ ds. ds ≡ get_or (extents_of (scope bindings.now)) var []) }
 {
     match bindings.get(var) {
@@ -70,29 +43,31 @@ fn of_variable(
     }
 }
 
-fn concatenated(alloc: Global, a: &[u64], b: &[u64]) -> Result<Items<u64>, MeaningFault>
+fn concatenated(alloc: Global, a: &[u64], b: &[u64]) -> Result<Items<u64>, AllocError>
+    requires { head_of a.now + head_of b.now < 2 ^ 64 }
     ensures { IfOk result (λ ds. ds ≡ (head_of a.now + head_of b.now) ∷ tail_of a.now) }
 {
-    in_front(alloc, sum(head_of(a), head_of(b))?, tail_of(a))
+    in_front(alloc, head_of(a) + head_of(b), tail_of(a))
 }
 
-fn flattened(alloc: Global, d: &[u64]) -> Result<Items<u64>, MeaningFault>
+fn flattened(alloc: Global, d: &[u64]) -> Result<Items<u64>, AllocError>
+    requires { head_of d.now * head_of (tail_of d.now) < 2 ^ 64 }
     ensures { IfOk result (λ ds. ds ≡ (head_of d.now * head_of (tail_of d.now)) ∷ tail_of (tail_of d.now)) }
 {
     let rest = tail_of(d);
-    in_front(alloc, product(head_of(d), head_of(rest))?, tail_of(rest))
+    in_front(alloc, head_of(d) * head_of(rest), tail_of(rest))
 }
 
-fn chunked(alloc: Global, k: u32, d: &[u64]) -> Result<Items<u64>, MeaningFault>
+fn chunked(alloc: Global, k: u32, d: &[u64]) -> Result<Items<u64>, AllocError>
     requires { 0 < k }
     ensures { IfOk result (λ ds. ds ≡ ((head_of d.now + k - 1) / k) ∷ k ∷ tail_of d.now) }
 {
-    let count = chunk_count(head_of(d), k)?;
+    let count = chunk_count(head_of(d), k);
     let rest = in_front(alloc, u64::from(k), tail_of(d))?;
     in_front(alloc, count, rest.as_slice())
 }
 
-fn transposed(alloc: Global, d: &[u64]) -> Result<Items<u64>, MeaningFault>
+fn transposed(alloc: Global, d: &[u64]) -> Result<Items<u64>, AllocError>
     ensures { IfOk result (λ ds. ds ≡ head_of (tail_of d.now) ∷ head_of d.now ∷ tail_of (tail_of d.now)) }
 {
     let rest = tail_of(d);
@@ -100,12 +75,7 @@ fn transposed(alloc: Global, d: &[u64]) -> Result<Items<u64>, MeaningFault>
     in_front(alloc, head_of(rest), others.as_slice())
 }
 
-fn shortened(
-    alloc: Global,
-    sizes: &[u64],
-    count: &Aff,
-    d: &[u64],
-) -> Result<Items<u64>, MeaningFault>
+fn shortened(alloc: Global, sizes: &[u64], count: &Aff, d: &[u64]) -> Result<Items<u64>, AllocError>
     requires { IsTrue (is_counted sizes.now count.now) }
     ensures { IfOk result (λ ds. ds ≡ (head_of d.now - extent count.now sizes.now) ∷ tail_of d.now) }
 {
@@ -121,11 +91,12 @@ fn lengthened(
     sizes: &[u64],
     count: &Aff,
     d: &[u64],
-) -> Result<Items<u64>, MeaningFault>
-    requires { IsTrue (is_counted sizes.now count.now) }
+) -> Result<Items<u64>, AllocError>
+    requires count { IsTrue (is_counted sizes.now count.now) }
+    requires room { head_of d.now + extent count.now sizes.now < 2 ^ 64 }
     ensures { IfOk result (λ ds. ds ≡ (head_of d.now + extent count.now sizes.now) ∷ tail_of d.now) }
 {
-    in_front(alloc, sum(head_of(d), extent(count, sizes))?, tail_of(d))
+    in_front(alloc, head_of(d) + extent(count, sizes), tail_of(d))
 }
 
 /// The extents of a body under those of its definition.
@@ -136,8 +107,9 @@ fn under(
     bindings: &mut Stack<Binding>,
     definition: Items<u64>,
     body: &Term,
-) -> Result<Items<u64>, MeaningFault>
-    requires { counted sizes.now body.now ≡ true }
+) -> Result<Items<u64>, AllocError>
+    requires counted { counted sizes.now body.now ≡ true }
+    requires fits { (denoted sizes.now body.now).fits (definition ∷ extents_of (scope bindings.old)) ≡ true }
     ensures extents { IfOk result (λ ds. ds ≡ (denoted sizes.now body.now).extents (definition ∷ extents_of (scope bindings.old))) }
     ensures bindings { OnOk result (bindings.new ≡ bindings.old) }
 {
@@ -158,8 +130,10 @@ fn followed_by(
     bindings: &mut Stack<Binding>,
     first: Items<u64>,
     second: &Term,
-) -> Result<Items<u64>, MeaningFault>
-    requires { counted sizes.now second.now ≡ true }
+) -> Result<Items<u64>, AllocError>
+    requires counted { counted sizes.now second.now ≡ true }
+    requires fits { fits_in sizes.now second.now bindings.old ≡ true }
+    requires room { head_of first + head_of ((denoted sizes.now second.now).extents (extents_of (scope bindings.old))) < 2 ^ 64 }
     ensures extents { IfOk result (λ ds. ds ≡ (head_of first + head_of ((denoted sizes.now second.now).extents (extents_of (scope bindings.old)))) ∷ tail_of first) }
     ensures bindings { OnOk result (bindings.new ≡ bindings.old) }
 {
@@ -174,8 +148,9 @@ pub fn extents(
     sizes: &[u64],
     bindings: &mut Stack<Binding>,
     term: &Term,
-) -> Result<Items<u64>, MeaningFault>
-    requires { counted sizes.now term.now ≡ true }
+) -> Result<Items<u64>, AllocError>
+    requires counted { counted sizes.now term.now ≡ true }
+    requires fits { fits_in sizes.now term.now bindings.old ≡ true }
     ensures extents { IfOk result (λ ds. ds ≡ (denoted sizes.now term.now).extents (extents_of (scope bindings.old))) }
     ensures bindings { OnOk result (bindings.new ≡ bindings.old) }
 {

@@ -1,37 +1,36 @@
-//! Extents as forms: those that each operator gives.
-//!
-//! A refusal for a limit of forms is answered as want of memory. By argument, not by proof, the extents of a sound module
-//! meet none.
+//! Extents as forms: those that each operator gives, where they are within the limits of forms.
 
-ghost use Rattle.std.specs.Prelude.{◌≡◌, ◌<◌, ◌≤◌, ◌∷◌, [], Ok, IfOk, MatchOption};
+ghost use Rattle.std.specs.Prelude.{◌≡◌, ◌<◌, ◌≤◌, ◌∷◌, [], true, Ok, IfOk, IsOkUnless, MatchOption, MatchResult};
+ghost use Rattle.affine_index.specs.Normal.{Refused};
+ghost use Rattle.shape_rules.specs.Scopes.{each_free};
 ghost use Rattle.term_tree.specs.Shape.{tiles};
-ghost use Rattle.atl_meaning.specs.Forms.{chunked_forms, concatenated_forms, flattened_forms, lengthened_forms, shortened_forms, transposed_forms};
+ghost use Rattle.atl_meaning.specs.Forms.{chunked_forms, concatenated_forms, each_within, flattened_forms, lengthened_forms, shortened_forms, transposed_forms};
 ghost use Rattle.atl_meaning.specs.Lists.{rest_of};
 
-use crate::fault::MeaningFault;
 use affine_index::raw::{copied, quotient, sum, within_limits};
 use affine_index::{Aff, AffRefusal};
 use sqlite_items::Items;
-use std::alloc::Global;
+use std::alloc::{AllocError, Global};
 
-/// A form, where it was made.
-fn made(form: Result<Aff, AffRefusal>) -> Result<Aff, MeaningFault>
+/// A form that is refused for want of memory alone.
+fn made(form: Result<Aff, AffRefusal>) -> Result<Aff, AllocError>
+    requires { IsOkUnless form AffRefusal.Memory }
     ensures { IfOk result (λ f. form ≡ Ok f) }
 {
     match form {
         Ok(form) => Ok(form),
-        Err(_) => Err(MeaningFault::Memory),
+        Err(_) => Err(AllocError),
     }
 }
 
-pub fn copy(alloc: Global, form: &Aff) -> Result<Aff, MeaningFault>
+pub fn copy(alloc: Global, form: &Aff) -> Result<Aff, AllocError>
     ensures { IfOk result (λ f. f ≡ form.now) }
 {
     made(form.copy(alloc))
 }
 
 /// Equal extents.
-pub fn copies(alloc: Global, extents: &[Aff]) -> Result<Items<Aff>, MeaningFault>
+pub fn copies(alloc: Global, extents: &[Aff]) -> Result<Items<Aff>, AllocError>
     ensures { IfOk result (λ copies. copies ≡ extents.now) }
 {
     let mut copies = Items::new(alloc);
@@ -53,7 +52,7 @@ fn take_first(extents: &mut Items<Aff>) -> Option<Aff>
 }
 
 /// An extent in front of others.
-pub fn in_front(alloc: Global, first: Aff, rest: Items<Aff>) -> Result<Items<Aff>, MeaningFault>
+pub fn in_front(alloc: Global, first: Aff, rest: Items<Aff>) -> Result<Items<Aff>, AllocError>
     ensures { IfOk result (λ ns. ns ≡ first ∷ rest) }
 {
     let mut extents = Items::new(alloc);
@@ -72,7 +71,8 @@ pub fn without_first(extents: Items<Aff>) -> Items<Aff>
 }
 
 /// The extents of rows of a, then of b.
-pub fn concatenated(alloc: Global, a: Items<Aff>, b: Items<Aff>) -> Result<Items<Aff>, MeaningFault>
+pub fn concatenated(alloc: Global, a: Items<Aff>, b: Items<Aff>) -> Result<Items<Aff>, AllocError>
+    requires { each_within (concatenated_forms a b) ≡ true }
     ensures { IfOk result (λ ns. ns ≡ concatenated_forms a b) }
 {
     let mut a = a;
@@ -84,7 +84,9 @@ pub fn concatenated(alloc: Global, a: Items<Aff>, b: Items<Aff>) -> Result<Items
 }
 
 /// The extents of the rows of the rows.
-pub fn flattened(alloc: Global, extents: Items<Aff>) -> Result<Items<Aff>, MeaningFault>
+pub fn flattened(alloc: Global, extents: Items<Aff>) -> Result<Items<Aff>, AllocError>
+    requires within { each_within (flattened_forms extents) ≡ true }
+    requires free { each_free extents ≡ true }
     ensures { IfOk result (λ ns. ns ≡ flattened_forms extents) }
 {
     let mut rest = extents;
@@ -98,7 +100,7 @@ pub fn flattened(alloc: Global, extents: Items<Aff>) -> Result<Items<Aff>, Meani
 }
 
 /// The extents of the columns.
-pub fn transposed(alloc: Global, extents: Items<Aff>) -> Result<Items<Aff>, MeaningFault>
+pub fn transposed(alloc: Global, extents: Items<Aff>) -> Result<Items<Aff>, AllocError>
     ensures { IfOk result (λ ns. ns ≡ transposed_forms extents) }
 {
     let mut rest = extents;
@@ -116,7 +118,7 @@ pub fn transposed(alloc: Global, extents: Items<Aff>) -> Result<Items<Aff>, Mean
 fn tiles(alloc: Global, k: u32, n: &Aff) -> Result<Aff, AffRefusal>
     requires positive { 0 < k }
     requires limit { k ≤ 2147483647 }
-    ensures { IfOk result (λ form. form ≡ tiles k n.now) }
+    ensures { MatchResult result (λ form. form ≡ tiles k n.now) (Refused (tiles k n.now)) }
 {
     let more = Aff::literal(alloc, i64::from(k - 1))?;
     let a = copied(alloc, n)?;
@@ -127,9 +129,10 @@ fn tiles(alloc: Global, k: u32, n: &Aff) -> Result<Aff, AffRefusal>
 }
 
 /// The extents of chunks of k rows.
-pub fn chunked(alloc: Global, k: u32, extents: Items<Aff>) -> Result<Items<Aff>, MeaningFault>
+pub fn chunked(alloc: Global, k: u32, extents: Items<Aff>) -> Result<Items<Aff>, AllocError>
     requires positive { 0 < k }
     requires limit { k ≤ 2147483647 }
+    requires within { each_within (chunked_forms k extents) ≡ true }
     ensures { IfOk result (λ ns. ns ≡ chunked_forms k extents) }
 {
     let mut rest = extents;
@@ -143,11 +146,8 @@ pub fn chunked(alloc: Global, k: u32, extents: Items<Aff>) -> Result<Items<Aff>,
 }
 
 /// The extents without so many rows.
-pub fn shortened(
-    alloc: Global,
-    count: &Aff,
-    extents: Items<Aff>,
-) -> Result<Items<Aff>, MeaningFault>
+pub fn shortened(alloc: Global, count: &Aff, extents: Items<Aff>) -> Result<Items<Aff>, AllocError>
+    requires { each_within (shortened_forms count.now extents) ≡ true }
     ensures { IfOk result (λ ns. ns ≡ shortened_forms count.now extents) }
 {
     let mut rest = extents;
@@ -158,11 +158,8 @@ pub fn shortened(
 }
 
 /// The extents with so many more rows.
-pub fn lengthened(
-    alloc: Global,
-    count: &Aff,
-    extents: Items<Aff>,
-) -> Result<Items<Aff>, MeaningFault>
+pub fn lengthened(alloc: Global, count: &Aff, extents: Items<Aff>) -> Result<Items<Aff>, AllocError>
+    requires { each_within (lengthened_forms count.now extents) ≡ true }
     ensures { IfOk result (λ ns. ns ≡ lengthened_forms count.now extents) }
 {
     let mut rest = extents;

@@ -1,10 +1,12 @@
 //! What the outputs of a module denote.
 #![tactic(auto, using(crate::proofs::TurnLaws::limit_laws, crate::proofs::ModuleLaws::shape_laws))]
 
-ghost use Rattle.std.specs.Prelude.{◌≡◌, ◌-◌, ◌<◌, ◌^◌, length, map, true, IfOk};
+ghost use Rattle.std.specs.Prelude.{◌≡◌, ◌-◌, ◌<◌, ◌^◌, length, map, true, All, IfOk, IsOk};
+ghost use Rattle.term_tree.specs.Meaning.{extents_of};
+ghost use Rattle.term_tree.specs.Shape.{shape_of};
 ghost use Rattle.term_tree.specs.Modules.{Allowed, AreInputs, IsSound, extents_at, inputs_bound, inputs_scoped, module_den};
 ghost use Rattle.atl_meaning.specs.Answers.{HasCause, IsDecided};
-ghost use Rattle.atl_meaning.specs.Denoted.{outputs_tensors, scope};
+ghost use Rattle.atl_meaning.specs.Denoted.{outputs_fit, outputs_tensors, scope};
 ghost use Rattle.atl_meaning.specs.Exact.{all_counted, inputs_counted, outputs_exact};
 ghost use Rattle.atl_meaning.specs.Forms.{each_scoped, shapes_of};
 ghost use Rattle.atl_meaning.specs.Scopes.{outputs_ready};
@@ -31,7 +33,7 @@ use std::alloc::{AllocError, Global};
 use term_tree::{InputDecl, Module, OutputDecl};
 
 /// The sizes, each counted as at least 1.
-fn at_least_one(alloc: Global, sizes: &[u64]) -> Result<Items<u64>, MeaningFault>
+fn at_least_one(alloc: Global, sizes: &[u64]) -> Result<Items<u64>, AllocError>
     ensures { IfOk result (λ floor. floor ≡ at_least_one sizes.now) }
 {
     let mut floor = Items::new(alloc);
@@ -42,7 +44,7 @@ fn at_least_one(alloc: Global, sizes: &[u64]) -> Result<Items<u64>, MeaningFault
 }
 
 /// The extents at the sizes.
-fn extents_at(alloc: Global, sizes: &[u64], extents: &[Aff]) -> Result<Items<u64>, MeaningFault>
+fn extents_at(alloc: Global, sizes: &[u64], extents: &[Aff]) -> Result<Items<u64>, AllocError>
     requires { all_counted sizes.now extents.now ≡ true }
     ensures { IfOk result (λ ds. ds ≡ extents_at extents.now sizes.now) }
 {
@@ -54,32 +56,28 @@ fn extents_at(alloc: Global, sizes: &[u64], extents: &[Aff]) -> Result<Items<u64
 }
 
 /// The words of the first input with over 2^24 of them.
-fn first_big_input(
-    sizes: &[u64],
-    floor: &[u64],
-    inputs: &[InputDecl],
-) -> Result<Option<u64>, MeaningFault>
+fn first_big_input(sizes: &[u64], floor: &[u64], inputs: &[InputDecl]) -> Option<u64>
     requires floor { floor.now ≡ at_least_one sizes.now }
     requires scoped { inputs_scoped (length sizes.now) inputs.now ≡ true }
-    ensures { IfOk result (λ big. big ≡ first_big_input inputs.now sizes.now) }
+    ensures { result ≡ first_big_input inputs.now sizes.now }
 {
     for input in inputs {
         let words = words_at(input.extents.as_slice(), sizes, floor, false);
         if let Some(words) = too_big(words, None) {
-            return Ok(Some(words));
+            return Some(words);
         }
     }
-    Ok(None)
+    None
 }
 
 /// The extents of the inputs in scope, the first as the innermost.
-fn input_shapes(alloc: Global, inputs: &[InputDecl]) -> Result<Stack<Items<Aff>>, MeaningFault>
+fn input_shapes(alloc: Global, inputs: &[InputDecl]) -> Result<Stack<Items<Aff>>, AllocError>
     ensures { IfOk result (λ shapes. shapes ≡ shapes_of inputs.now) }
 {
     let mut shapes = Vec::new(alloc);
     for input in inputs {
         let extents = copies(alloc, input.extents.as_slice())?;
-        shapes.push(extents).map_err(AllocError::from)?;
+        shapes.push(extents)?;
     }
     Ok(Stack::of(shapes))
 }
@@ -91,10 +89,11 @@ fn first_big_node(
     floor: &[u64],
     shapes: &mut Stack<Items<Aff>>,
     outputs: &[OutputDecl],
-) -> Result<Option<u64>, MeaningFault>
+) -> Result<Option<u64>, AllocError>
     requires floor { floor.now ≡ at_least_one sizes.now }
     requires shapes { each_scoped (length sizes.now) shapes.old ≡ true }
     requires ready { outputs_ready (length sizes.now) outputs.now ≡ true }
+    requires shaped { All (λ o. IsOk (shape_of o.term shapes.old)) outputs.now }
     ensures { IfOk result (λ big. big ≡ outputs_surveyed sizes.now outputs.now shapes.old) }
 {
     let mut vars = Variables::new(alloc);
@@ -108,14 +107,15 @@ fn first_big_node(
 }
 
 /// The words of the first input or node with over 2^24 of them.
-fn first_big(alloc: Global, module: &Module, sizes: &[u64]) -> Result<Option<u64>, MeaningFault>
+fn first_big(alloc: Global, module: &Module, sizes: &[u64]) -> Result<Option<u64>, AllocError>
     requires inputs { inputs_scoped (length sizes.now) «module».now.inputs ≡ true }
     requires outputs { outputs_ready (length sizes.now) «module».now.outputs ≡ true }
+    requires shaped { All (λ o. IsOk (shape_of o.term (shapes_of «module».now.inputs))) «module».now.outputs }
     ensures { IfOk result (λ big. big ≡ first_of (first_big_input «module».now.inputs sizes.now) (outputs_surveyed sizes.now «module».now.outputs (shapes_of «module».now.inputs))) }
 {
     let inputs = module.inputs.as_slice();
     let floor = at_least_one(alloc, sizes)?;
-    match first_big_input(sizes, floor.as_slice(), inputs)? {
+    match first_big_input(sizes, floor.as_slice(), inputs) {
         Some(words) => Ok(Some(words)),
         None => {
             let mut shapes = input_shapes(alloc, inputs)?;
@@ -136,7 +136,7 @@ fn left_of_limit(
     sizes: &[u64],
     outputs: &[OutputDecl],
     limit: u64,
-) -> Result<Option<u64>, MeaningFault>
+) -> Result<Option<u64>, AllocError>
     requires { outputs_exact sizes.now outputs.now ≡ true }
     ensures { IfOk result (λ left. left ≡ spent (turn_folds sizes.now outputs.now) limit) }
 {
@@ -157,7 +157,7 @@ fn bound(
     sizes: &[u64],
     declared: &[InputDecl],
     inputs: &[Tensor],
-) -> Result<Stack<Binding>, MeaningFault>
+) -> Result<Stack<Binding>, AllocError>
     requires { inputs_counted sizes.now declared.now ≡ true }
     ensures { IfOk result (λ bindings. scope bindings ≡ inputs_bound declared.now sizes.now (map meant inputs.now)) }
 {
@@ -165,9 +165,7 @@ fn bound(
     for at in 0..declared.len().min(inputs.len()) {
         let extents = extents_at(alloc, sizes, declared[at].extents.as_slice())?;
         let value = copy(alloc, &inputs[at])?;
-        bindings
-            .push(Binding { extents, value })
-            .map_err(AllocError::from)?;
+        bindings.push(Binding { extents, value })?;
     }
     Ok(Stack::of(bindings))
 }
@@ -178,8 +176,9 @@ fn evaluated(
     sizes: &[u64],
     bindings: &mut Stack<Binding>,
     outputs: &[OutputDecl],
-) -> Result<Items<Tensor>, MeaningFault>
-    requires { outputs_exact sizes.now outputs.now ≡ true }
+) -> Result<Items<Tensor>, AllocError>
+    requires exact { outputs_exact sizes.now outputs.now ≡ true }
+    requires fits { outputs_fit sizes.now outputs.now (extents_of (scope bindings.old)) ≡ true }
     ensures { IfOk result (λ tensors. map meant tensors ≡ outputs_tensors sizes.now outputs.now (scope bindings.old)) }
 {
     let mut vars = Variables::new(alloc);
@@ -196,16 +195,17 @@ fn computed(
     module: &Module,
     sizes: &[u64],
     inputs: &[Tensor],
-) -> Result<Items<Tensor>, MeaningFault>
+) -> Result<Items<Tensor>, AllocError>
     requires inputs { inputs_counted sizes.now «module».now.inputs ≡ true }
     requires outputs { outputs_exact sizes.now «module».now.outputs ≡ true }
+    requires fits { outputs_fit sizes.now «module».now.outputs (extents_of (inputs_bound «module».now.inputs sizes.now (map meant inputs.now))) ≡ true }
     ensures { IfOk result (λ tensors. map meant tensors ≡ outputs_tensors sizes.now «module».now.outputs (inputs_bound «module».now.inputs sizes.now (map meant inputs.now))) }
 {
     let mut bindings = bound(alloc, sizes, module.inputs.as_slice(), inputs)?;
     evaluated(alloc, sizes, &mut bindings, module.outputs.as_slice())
 }
 
-/// The same as `denote` for a module whose forms name what is in scope.
+/// The same as `denote`, by the folds.
 fn answer(
     alloc: Global,
     module: &Module,
@@ -213,22 +213,18 @@ fn answer(
     inputs: &[Tensor],
     limit: u64,
 ) -> Result<Items<Tensor>, MeaningFault>
-    requires inputs { inputs_scoped (length sizes.now) «module».now.inputs ≡ true }
-    requires outputs { outputs_ready (length sizes.now) «module».now.outputs ≡ true }
+    requires sound { IsSound «module».now }
+    requires allowed { Allowed «module».now sizes.now }
+    requires inputs { AreInputs «module».now.inputs sizes.now (map meant inputs.now) }
     requires limit { limit < 2 ^ 64 - 1 }
     ensures tensors { IfOk result (λ tensors. map meant tensors ≡ outputs_tensors sizes.now «module».now.outputs (inputs_bound «module».now.inputs sizes.now (map meant inputs.now))) }
     ensures cause { IsDecided (first_of (first_big_input «module».now.inputs sizes.now) (outputs_surveyed sizes.now «module».now.outputs (shapes_of «module».now.inputs))) (turn_folds sizes.now «module».now.outputs) limit result }
 {
-    match first_big(alloc, module, sizes) {
-        Err(_) => Err(MeaningFault::Memory),
-        Ok(Some(words)) => Err(MeaningFault::TooBig { words }),
-        Ok(None) => match left_of_limit(alloc, sizes, module.outputs.as_slice(), limit) {
-            Err(_) => Err(MeaningFault::Memory),
-            Ok(None) => Err(MeaningFault::TooMuchWork { turns: limit + 1 }),
-            Ok(Some(_)) => match computed(alloc, module, sizes, inputs) {
-                Err(_) => Err(MeaningFault::Memory),
-                Ok(tensors) => Ok(tensors),
-            },
+    match first_big(alloc, module, sizes)? {
+        Some(words) => Err(MeaningFault::TooBig { words }),
+        None => match left_of_limit(alloc, sizes, module.outputs.as_slice(), limit)? {
+            None => Err(MeaningFault::TooMuchWork { turns: limit + 1 }),
+            Some(_) => Ok(computed(alloc, module, sizes, inputs)?),
         },
     }
 }

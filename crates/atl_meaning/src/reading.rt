@@ -11,22 +11,21 @@ ghost use Rattle.atl_meaning.specs.Values.{meant};
 
 use crate::binding::Binding;
 use crate::build::copy;
-use crate::fault::MeaningFault;
 use crate::read::Read;
 use crate::reshape::row_of;
 use crate::stack::Stack;
 use crate::tensor::Tensor;
 use crate::values::value;
 use affine_index::Aff;
-use std::alloc::Global;
+use std::alloc::{AllocError, Global};
 use term_tree::Term;
 
 /// A copy of the tensor of a variable; of one that is not in scope, the word 0.
-pub fn variable(alloc: Global, bindings: &Stack<Binding>, var: u32) -> Result<Tensor, MeaningFault>
+pub fn variable(alloc: Global, bindings: &Stack<Binding>, var: u32) -> Result<Tensor, AllocError>
     ensures { IfOk result (λ v. meant v ≡ (get_or (scope bindings.now) var no_bound).1) }
 {
     match bindings.get(var) {
-        Some(binding) => Ok(copy(alloc, &binding.value)?),
+        Some(binding) => copy(alloc, &binding.value),
         None => Ok(Tensor::Word(0)),
     }
 }
@@ -51,22 +50,22 @@ fn find<'a>(
     vars: &[u64],
     bindings: &'a Stack<Binding>,
     term: &Term,
-) -> Result<Option<Option<&'a Tensor>>, MeaningFault>
+) -> Option<Option<&'a Tensor>>
     requires { exact sizes.now term.now vars.now ≡ true }
-    ensures { IfOk result (λ found. MatchOption found (Unit {0}) (λ tensor. MatchOption tensor (tensor_in sizes.now term.now vars.now bindings.now ≡ zeros (extents_in sizes.now term.now bindings.now)) (λ v. tensor_in sizes.now term.now vars.now bindings.now ≡ meant v.now))) }
+    ensures { MatchOption result (Unit {0}) (λ tensor. MatchOption tensor (tensor_in sizes.now term.now vars.now bindings.now ≡ zeros (extents_in sizes.now term.now bindings.now)) (λ v. tensor_in sizes.now term.now vars.now bindings.now ≡ meant v.now)) }
 {
     match term {
         Term::TVar(var) => match bindings.get(*var) {
-            Some(binding) => Ok(Some(Some(&binding.value))),
-            None => Ok(Some(None)),
+            Some(binding) => Some(Some(&binding.value)),
+            None => Some(None),
         },
-        Term::Index(e, x) => match find(sizes, vars, bindings, e.get())? {
+        Term::Index(e, x) => match find(sizes, vars, bindings, e.get()) {
             Some(Some(tensor)) => {
                 let row = row_of_index(tensor, x, sizes, vars);
-                Ok(Some(row))
+                Some(row)
             }
-            Some(None) => Ok(Some(None)),
-            None => Ok(None),
+            Some(None) => Some(None),
+            None => None,
         },
         Term::Lit(_)
         | Term::WordOf(_)
@@ -84,7 +83,7 @@ fn find<'a>(
         | Term::TruncL(_, _)
         | Term::TruncR(_, _)
         | Term::PadL(_, _)
-        | Term::PadR(_, _) => Ok(None),
+        | Term::PadR(_, _) => None,
     }
 }
 
@@ -96,11 +95,11 @@ pub fn read(
     bindings: &Stack<Binding>,
     term: &Term,
     number: i128,
-) -> Result<Read, MeaningFault>
+) -> Result<Read, AllocError>
     requires { exact sizes.now term.now vars.now ≡ true }
     ensures { IfOk result (λ read. IsRead (row_at (rows_of (tensor_in sizes.now term.now vars.now bindings.now)) number (zeros (tail_of (extents_in sizes.now term.now bindings.now)))) (zeros (tail_of (extents_in sizes.now term.now bindings.now))) read) }
 {
-    match find(sizes, vars, bindings, term)? {
+    match find(sizes, vars, bindings, term) {
         None => Ok(Read::Computed),
         Some(None) => Ok(Read::Missing),
         Some(Some(tensor)) => match row_of(tensor, number) {

@@ -1,15 +1,15 @@
 //! The first node with too many words.
 #![tactic(auto, using(crate::proofs::FormScopes::scope_laws))]
 
-ghost use Rattle.std.specs.Prelude.{◌≡◌, ◌+◌, ◌<◌, ◌≤◌, ◌∷◌, [], get_or, length, true, false, IfOk, IsTrue, OnOk};
+ghost use Rattle.std.specs.Prelude.{◌≡◌, ◌+◌, ◌<◌, ◌≤◌, ◌∷◌, [], get_or, length, true, false, IfOk, IsOk, IsTrue, OnOk};
+ghost use Rattle.term_tree.specs.Shape.{shape_of};
 ghost use Rattle.term_tree.specs.Modules.{extents_scoped};
-ghost use Rattle.atl_meaning.specs.Forms.{chunked_forms, concatenated_forms, each_scoped, flattened_forms, lengthened_forms, shortened_forms, transposed_forms};
+ghost use Rattle.atl_meaning.specs.Forms.{chunked_forms, concatenated_forms, each_scoped, each_within, flattened_forms, lengthened_forms, shortened_forms, transposed_forms};
 ghost use Rattle.atl_meaning.specs.Words.{at_least_one, first_of, is_large, largest_index};
 ghost use Rattle.atl_meaning.specs.Surveyed.{found_at, surveyed, under_found};
 ghost use Rattle.atl_meaning.specs.Scopes.{placed, sized};
 ghost use Rattle.affine_index.specs.Limited.{items_scoped};
 
-use crate::fault::MeaningFault;
 use crate::forms::{
     chunked, concatenated, copies, copy, flattened, in_front, lengthened, shortened, transposed,
     without_first,
@@ -20,7 +20,7 @@ use crate::variables::Variables;
 use crate::words::{any_large_comparison, first_of, is_large, too_big, words_at};
 use affine_index::Aff;
 use sqlite_items::Items;
-use std::alloc::Global;
+use std::alloc::{AllocError, Global};
 use term_tree::Term;
 
 /// A node of these extents, where `later` is found below it.
@@ -30,17 +30,17 @@ fn at_node(
     extents: Items<Aff>,
     large: bool,
     later: Option<u64>,
-) -> Result<Found, MeaningFault>
+) -> Found
     requires floor { floor.now ≡ at_least_one sizes.now }
     requires scoped { extents_scoped (length sizes.now) extents ≡ true }
-    ensures found { IfOk result (λ found. found ≡ found_at sizes.now extents large later) }
-    ensures scoped { IfOk result (λ found. extents_scoped (length sizes.now) found.extents ≡ true) }
+    ensures found { result ≡ found_at sizes.now extents large later }
+    ensures scoped { extents_scoped (length sizes.now) result.extents ≡ true }
 {
     let words = words_at(extents.as_slice(), sizes, floor, large);
-    Ok(Found {
+    Found {
         extents,
         big: too_big(words, later),
-    })
+    }
 }
 
 /// So many rows of a child.
@@ -50,7 +50,7 @@ fn rows_node(
     floor: &[u64],
     count: &Aff,
     child: Found,
-) -> Result<Found, MeaningFault>
+) -> Result<Found, AllocError>
     requires floor { floor.now ≡ at_least_one sizes.now }
     requires scoped { extents_scoped (length sizes.now) child.extents ≡ true }
     requires count { IsTrue (items_scoped (length sizes.now) 0 count.now) }
@@ -59,7 +59,7 @@ fn rows_node(
 {
     let big = child.big;
     let extents = in_front(alloc, copy(alloc, count)?, child.extents)?;
-    at_node(sizes, floor, extents, is_large(count, floor, &[]), big)
+    Ok(at_node(sizes, floor, extents, is_large(count, floor, &[]), big))
 }
 
 /// The rows of the rows of a child.
@@ -68,15 +68,16 @@ fn flattened_node(
     sizes: &[u64],
     floor: &[u64],
     child: Found,
-) -> Result<Found, MeaningFault>
+) -> Result<Found, AllocError>
     requires floor { floor.now ≡ at_least_one sizes.now }
     requires scoped { extents_scoped (length sizes.now) child.extents ≡ true }
+    requires within { each_within (flattened_forms child.extents) ≡ true }
     ensures found { IfOk result (λ found. found ≡ found_at sizes.now (flattened_forms child.extents) false child.big) }
     ensures scoped { IfOk result (λ found. extents_scoped (length sizes.now) found.extents ≡ true) }
 {
     let big = child.big;
     let extents = flattened(alloc, child.extents)?;
-    at_node(sizes, floor, extents, false, big)
+    Ok(at_node(sizes, floor, extents, false, big))
 }
 
 /// A child in chunks of k rows.
@@ -86,17 +87,18 @@ fn chunked_node(
     floor: &[u64],
     k: u32,
     child: Found,
-) -> Result<Found, MeaningFault>
+) -> Result<Found, AllocError>
     requires floor { floor.now ≡ at_least_one sizes.now }
     requires scoped { extents_scoped (length sizes.now) child.extents ≡ true }
     requires positive { 0 < k }
     requires limit { k ≤ 2147483647 }
+    requires within { each_within (chunked_forms k child.extents) ≡ true }
     ensures found { IfOk result (λ found. found ≡ found_at sizes.now (chunked_forms k child.extents) false child.big) }
     ensures scoped { IfOk result (λ found. extents_scoped (length sizes.now) found.extents ≡ true) }
 {
     let big = child.big;
     let extents = chunked(alloc, k, child.extents)?;
-    at_node(sizes, floor, extents, false, big)
+    Ok(at_node(sizes, floor, extents, false, big))
 }
 
 /// The columns of a child.
@@ -105,7 +107,7 @@ fn transposed_node(
     sizes: &[u64],
     floor: &[u64],
     child: Found,
-) -> Result<Found, MeaningFault>
+) -> Result<Found, AllocError>
     requires floor { floor.now ≡ at_least_one sizes.now }
     requires scoped { extents_scoped (length sizes.now) child.extents ≡ true }
     ensures found { IfOk result (λ found. found ≡ found_at sizes.now (transposed_forms child.extents) false child.big) }
@@ -113,7 +115,7 @@ fn transposed_node(
 {
     let big = child.big;
     let extents = transposed(alloc, child.extents)?;
-    at_node(sizes, floor, extents, false, big)
+    Ok(at_node(sizes, floor, extents, false, big))
 }
 
 /// A child without so many rows.
@@ -123,16 +125,17 @@ fn shortened_node(
     floor: &[u64],
     count: &Aff,
     child: Found,
-) -> Result<Found, MeaningFault>
+) -> Result<Found, AllocError>
     requires floor { floor.now ≡ at_least_one sizes.now }
     requires scoped { extents_scoped (length sizes.now) child.extents ≡ true }
     requires count { IsTrue (items_scoped (length sizes.now) 0 count.now) }
+    requires within { each_within (shortened_forms count.now child.extents) ≡ true }
     ensures found { IfOk result (λ found. found ≡ found_at sizes.now (shortened_forms count.now child.extents) (is_large (at_least_one sizes.now) [] count.now) child.big) }
     ensures scoped { IfOk result (λ found. extents_scoped (length sizes.now) found.extents ≡ true) }
 {
     let big = child.big;
     let extents = shortened(alloc, count, child.extents)?;
-    at_node(sizes, floor, extents, is_large(count, floor, &[]), big)
+    Ok(at_node(sizes, floor, extents, is_large(count, floor, &[]), big))
 }
 
 /// A child with so many more rows.
@@ -142,16 +145,17 @@ fn lengthened_node(
     floor: &[u64],
     count: &Aff,
     child: Found,
-) -> Result<Found, MeaningFault>
+) -> Result<Found, AllocError>
     requires floor { floor.now ≡ at_least_one sizes.now }
     requires scoped { extents_scoped (length sizes.now) child.extents ≡ true }
     requires count { IsTrue (items_scoped (length sizes.now) 0 count.now) }
+    requires within { each_within (lengthened_forms count.now child.extents) ≡ true }
     ensures found { IfOk result (λ found. found ≡ found_at sizes.now (lengthened_forms count.now child.extents) (is_large (at_least_one sizes.now) [] count.now) child.big) }
     ensures scoped { IfOk result (λ found. extents_scoped (length sizes.now) found.extents ≡ true) }
 {
     let big = child.big;
     let extents = lengthened(alloc, count, child.extents)?;
-    at_node(sizes, floor, extents, is_large(count, floor, &[]), big)
+    Ok(at_node(sizes, floor, extents, is_large(count, floor, &[]), big))
 }
 
 /// The extents of a variable; of one that is not in scope, none.
@@ -159,7 +163,7 @@ fn of_variable(
     alloc: Global,
     shapes: &Stack<Items<Aff>>,
     var: u32,
-) -> Result<Items<Aff>, MeaningFault>
+) -> Result<Items<Aff>, AllocError>
     ensures { IfOk result (λ ns. ns ≡ get_or shapes.now var []) }
 {
     match shapes.get(var) {
@@ -178,12 +182,13 @@ fn under_binder(
     shapes: &mut Stack<Items<Aff>>,
     extent: &Aff,
     term: &Term,
-) -> Result<Found, MeaningFault>
+) -> Result<Found, AllocError>
     requires floor { floor.now ≡ at_least_one sizes.now }
     requires extent { IsTrue (items_scoped (length sizes.now) 0 extent.now) }
     requires sized { sized (length sizes.now) term.now ≡ true }
     requires placed { placed (length sizes.now) term.now (length vars.old + 1) ≡ true }
     requires shapes { each_scoped (length sizes.now) shapes.old ≡ true }
+    requires shaped { IsOk (shape_of term.now shapes.old) }
     ensures found { IfOk result (λ found. found ≡ surveyed sizes.now term.now (largest_index sizes.now extent.now ∷ vars.old) shapes.old) }
     ensures scoped { IfOk result (λ found. extents_scoped (length sizes.now) found.extents ≡ true) }
     ensures vars { OnOk result (vars.new ≡ vars.old) }
@@ -205,12 +210,13 @@ fn like_first(
     shapes: &mut Stack<Items<Aff>>,
     second: &Term,
     first: Found,
-) -> Result<Found, MeaningFault>
+) -> Result<Found, AllocError>
     requires floor { floor.now ≡ at_least_one sizes.now }
     requires sized { sized (length sizes.now) second.now ≡ true }
     requires placed { placed (length sizes.now) second.now (length vars.old) ≡ true }
     requires shapes { each_scoped (length sizes.now) shapes.old ≡ true }
     requires first { extents_scoped (length sizes.now) first.extents ≡ true }
+    requires shaped { IsOk (shape_of second.now shapes.old) }
     ensures found { IfOk result (λ found. found ≡ found_at sizes.now (first.extents) false (first_of first.big (surveyed sizes.now second.now vars.old shapes.old).big)) }
     ensures scoped { IfOk result (λ found. extents_scoped (length sizes.now) found.extents ≡ true) }
     ensures vars { OnOk result (vars.new ≡ vars.old) }
@@ -218,7 +224,7 @@ fn like_first(
 {
     let other = survey(alloc, sizes, floor, vars, shapes, second)?;
     let big = first_of(first.big, other.big);
-    at_node(sizes, floor, first.extents, false, big)
+    Ok(at_node(sizes, floor, first.extents, false, big))
 }
 
 /// A word of two operands.
@@ -231,12 +237,13 @@ fn word_of_both(
     shapes: &mut Stack<Items<Aff>>,
     second: &Term,
     first: Found,
-) -> Result<Found, MeaningFault>
+) -> Result<Found, AllocError>
     requires floor { floor.now ≡ at_least_one sizes.now }
     requires sized { sized (length sizes.now) second.now ≡ true }
     requires placed { placed (length sizes.now) second.now (length vars.old) ≡ true }
     requires shapes { each_scoped (length sizes.now) shapes.old ≡ true }
     requires first { extents_scoped (length sizes.now) first.extents ≡ true }
+    requires shaped { IsOk (shape_of second.now shapes.old) }
     ensures found { IfOk result (λ found. found ≡ found_at sizes.now ([]) false (first_of first.big (surveyed sizes.now second.now vars.old shapes.old).big)) }
     ensures scoped { IfOk result (λ found. extents_scoped (length sizes.now) found.extents ≡ true) }
     ensures vars { OnOk result (vars.new ≡ vars.old) }
@@ -244,7 +251,7 @@ fn word_of_both(
 {
     let other = survey(alloc, sizes, floor, vars, shapes, second)?;
     let big = first_of(first.big, other.big);
-    at_node(sizes, floor, Items::new(alloc), false, big)
+    Ok(at_node(sizes, floor, Items::new(alloc), false, big))
 }
 
 /// The rows of a first operand, then those of a second.
@@ -257,12 +264,14 @@ fn concatenated_node(
     shapes: &mut Stack<Items<Aff>>,
     second: &Term,
     first: Found,
-) -> Result<Found, MeaningFault>
+) -> Result<Found, AllocError>
     requires floor { floor.now ≡ at_least_one sizes.now }
     requires sized { sized (length sizes.now) second.now ≡ true }
     requires placed { placed (length sizes.now) second.now (length vars.old) ≡ true }
     requires shapes { each_scoped (length sizes.now) shapes.old ≡ true }
     requires first { extents_scoped (length sizes.now) first.extents ≡ true }
+    requires shaped { IsOk (shape_of second.now shapes.old) }
+    requires within { each_within (concatenated_forms first.extents (surveyed sizes.now second.now vars.old shapes.old).extents) ≡ true }
     ensures found { IfOk result (λ found. found ≡ found_at sizes.now (concatenated_forms first.extents (surveyed sizes.now second.now vars.old shapes.old).extents) false (first_of first.big (surveyed sizes.now second.now vars.old shapes.old).big)) }
     ensures scoped { IfOk result (λ found. extents_scoped (length sizes.now) found.extents ≡ true) }
     ensures vars { OnOk result (vars.new ≡ vars.old) }
@@ -271,7 +280,7 @@ fn concatenated_node(
     let other = survey(alloc, sizes, floor, vars, shapes, second)?;
     let big = first_of(first.big, other.big);
     let extents = concatenated(alloc, first.extents, other.extents)?;
-    at_node(sizes, floor, extents, false, big)
+    Ok(at_node(sizes, floor, extents, false, big))
 }
 
 /// A body under its definition.
@@ -284,12 +293,13 @@ fn under_definition(
     shapes: &mut Stack<Items<Aff>>,
     second: &Term,
     first: Found,
-) -> Result<Found, MeaningFault>
+) -> Result<Found, AllocError>
     requires floor { floor.now ≡ at_least_one sizes.now }
     requires sized { sized (length sizes.now) second.now ≡ true }
     requires placed { placed (length sizes.now) second.now (length vars.old) ≡ true }
     requires shapes { each_scoped (length sizes.now) shapes.old ≡ true }
     requires first { extents_scoped (length sizes.now) first.extents ≡ true }
+    requires shaped { IsOk (shape_of second.now (first.extents ∷ shapes.old)) }
     ensures found { IfOk result (λ found. found ≡ under_found sizes.now first (surveyed sizes.now second.now vars.old (first.extents ∷ shapes.old))) }
     ensures scoped { IfOk result (λ found. extents_scoped (length sizes.now) found.extents ≡ true) }
     ensures vars { OnOk result (vars.new ≡ vars.old) }
@@ -298,13 +308,13 @@ fn under_definition(
     shapes.enter(first.extents)?;
     let body = survey(alloc, sizes, floor, vars, shapes, second)?;
     shapes.leave();
-    at_node(
+    Ok(at_node(
         sizes,
         floor,
         body.extents,
         false,
         first_of(first.big, body.big),
-    )
+    ))
 }
 
 /// What is found of a term under the magnitudes of its index variables and the extents of its tensor variables. Each
@@ -317,30 +327,31 @@ pub fn survey(
     vars: &mut Variables,
     shapes: &mut Stack<Items<Aff>>,
     term: &Term,
-) -> Result<Found, MeaningFault>
+) -> Result<Found, AllocError>
     requires floor { floor.now ≡ at_least_one sizes.now }
     requires sized { sized (length sizes.now) term.now ≡ true }
     requires placed { placed (length sizes.now) term.now (length vars.old) ≡ true }
     requires shapes { each_scoped (length sizes.now) shapes.old ≡ true }
+    requires shaped { IsOk (shape_of term.now shapes.old) }
     ensures found { IfOk result (λ found. found ≡ surveyed sizes.now term.now vars.old shapes.old) }
     ensures scoped { IfOk result (λ found. extents_scoped (length sizes.now) found.extents ≡ true) }
     ensures vars { OnOk result (vars.new ≡ vars.old) }
     ensures shapes { OnOk result (shapes.new ≡ shapes.old) }
 {
     match term {
-        Term::Lit(_) => at_node(sizes, floor, Items::new(alloc), false, None),
+        Term::Lit(_) => Ok(at_node(sizes, floor, Items::new(alloc), false, None)),
         Term::TVar(var) => {
             let extents = of_variable(alloc, shapes, *var)?;
-            at_node(sizes, floor, extents, false, None)
+            Ok(at_node(sizes, floor, extents, false, None))
         }
         Term::WordOf(x) => {
             let large = is_large(x, floor, vars.as_slice());
-            at_node(sizes, floor, Items::new(alloc), large, None)
+            Ok(at_node(sizes, floor, Items::new(alloc), large, None))
         }
         Term::Index(e, x) => {
             let child = survey(alloc, sizes, floor, vars, shapes, e.get())?;
             let large = is_large(x, floor, vars.as_slice());
-            at_node(sizes, floor, without_first(child.extents), large, child.big)
+            Ok(at_node(sizes, floor, without_first(child.extents), large, child.big))
         }
         Term::Gen(n, e) => {
             let child = under_binder(alloc, sizes, floor, vars, shapes, n, e.get())?;
@@ -348,18 +359,18 @@ pub fn survey(
         }
         Term::Sum(n, e) => {
             let child = under_binder(alloc, sizes, floor, vars, shapes, n, e.get())?;
-            at_node(
+            Ok(at_node(
                 sizes,
                 floor,
                 child.extents,
                 is_large(n, floor, &[]),
                 child.big,
-            )
+            ))
         }
         Term::Guard(c, e) => {
             let child = survey(alloc, sizes, floor, vars, shapes, e.get())?;
             let large = any_large_comparison(c, floor, vars.as_slice());
-            at_node(sizes, floor, child.extents, large, child.big)
+            Ok(at_node(sizes, floor, child.extents, large, child.big))
         }
         Term::Let(a, b) => {
             let first = survey(alloc, sizes, floor, vars, shapes, a.get())?;

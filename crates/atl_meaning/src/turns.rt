@@ -7,11 +7,10 @@ ghost use Rattle.term_tree.specs.Meaning.{extent};
 ghost use Rattle.atl_meaning.specs.Exact.{all_exact, counted, exact, exact_below, is_counted};
 ghost use Rattle.atl_meaning.specs.Turns.{spent, turn_fold, total_below};
 
-use crate::fault::MeaningFault;
 use crate::values::{extent, holds};
 use crate::variables::Variables;
 use affine_index::{Aff, Cond};
-use std::alloc::Global;
+use std::alloc::{AllocError, Global};
 use term_tree::Term;
 
 /// What is left after each turn of a loop and the turns of its body.
@@ -23,7 +22,7 @@ fn left_after_loop(
     count: &Aff,
     body: &Term,
     left: u64,
-) -> Result<Option<u64>, MeaningFault>
+) -> Result<Option<u64>, AllocError>
     requires count { IsTrue (is_counted sizes.now count.now) }
     requires counted { counted sizes.now body.now ≡ true }
     requires exact { exact_below sizes.now (extent count.now sizes.now) body.now vars.old ≡ true }
@@ -55,7 +54,7 @@ fn left_after_second(
     vars: &mut Variables,
     left: Option<u64>,
     second: &Term,
-) -> Result<Option<u64>, MeaningFault>
+) -> Result<Option<u64>, AllocError>
     requires counted { counted sizes.now second.now ≡ true }
     requires exact { exact sizes.now second.now vars.old ≡ true }
     ensures left { IfOk result (λ rest. (first before : ℕ) → left ≡ spent first before → rest ≡ spent (first + turn_fold sizes.now second.now vars.old) before) }
@@ -76,7 +75,7 @@ fn left_after_guard(
     condition: &Cond,
     body: &Term,
     left: u64,
-) -> Result<Option<u64>, MeaningFault>
+) -> Result<Option<u64>, AllocError>
     requires condition { IsTrue (all_exact sizes.now vars.old condition.now.all) }
     requires counted { counted sizes.now body.now ≡ true }
     requires exact { exact sizes.now body.now vars.old ≡ true }
@@ -99,7 +98,7 @@ pub fn left_after(
     vars: &mut Variables,
     term: &Term,
     left: u64,
-) -> Result<Option<u64>, MeaningFault>
+) -> Result<Option<u64>, AllocError>
     requires counted { counted sizes.now term.now ≡ true }
     requires exact { exact sizes.now term.now vars.old ≡ true }
     ensures left { IfOk result (λ rest. rest ≡ spent (turn_fold sizes.now term.now vars.old) left) }

@@ -2,14 +2,15 @@ use Rattle.std.proofs.Common.{◌≡◌, ◌∙◌, ◌∷◌, ◌++◌, ◌+◌
 use Rattle.term_tree.specs.declared.term.Term.{Term}
 use Rattle.term_tree.specs.declared.term.Term.TheViews.{the_lemmas}
 use Rattle.affine_index.specs.Value.{items_value}
-use Rattle.term_tree.specs.Meaning.{extent, word_of}
+use Rattle.term_tree.specs.Meaning.{extent, extents_of, word_of}
 use Rattle.term_tree.specs.Tensors.{Tensor, Word, from_rows, plus_places, tabulate, total, zeros}
-use Rattle.atl_meaning.specs.Denoted.{body_in, extents_in, scope, tensor_in}
+use Rattle.atl_meaning.specs.Denoted.{body_in, denoted, extents_in, fits_in, scope, tensor_in}
 use Rattle.atl_meaning.specs.Lists.{rest_of}
 use Rattle.atl_meaning.specs.Exact.{counted, exact, exact_below}
 use Rattle.atl_meaning.specs.Values.{meant}
-use Rattle.atl_meaning.proofs.CodeLaws.{counted-Guard, counted-Index, denoted-Gen, denoted-Sum, denoted-WordOf, exact-Guard, exact-Index, exact-Let, counted-Let, exact-Add, counted-Add, exact-Sub, counted-Sub, exact-Mul, counted-Mul, exact-Concat, counted-Concat, counted-Split, exact-Gen, exact-Sum, exact-TruncL, exact-TruncR, exact-PadL, exact-PadR, counted-Gen, counted-Sum, counted-TruncL, counted-TruncR, counted-PadL, counted-PadR}
+use Rattle.atl_meaning.proofs.CodeLaws.{counted-Flatten, exact-Flatten, counted-Guard, counted-Index, denoted-Gen, denoted-Sum, denoted-WordOf, exact-Guard, exact-Index, exact-Let, counted-Let, exact-Add, counted-Add, exact-Sub, counted-Sub, exact-Mul, counted-Mul, exact-Concat, counted-Concat, counted-Split, exact-Gen, exact-Sum, exact-TruncL, exact-TruncR, exact-PadL, exact-PadR, counted-Gen, counted-Sum, counted-TruncL, counted-TruncR, counted-PadL, counted-PadR}
 use Rattle.atl_meaning.proofs.ExactLaws.{below-at}
+use Rattle.atl_meaning.proofs.FitLaws.{fits-Index, fits-Gen, fits-Sum, fits-Guard, fits-Let, fits-Add, fits-Sub, fits-Mul, fits-Concat, fits-Flatten, fits-Split, fits-TruncL, fits-TruncR, fits-PadL, fits-PadR}
 use Rattle.atl_meaning.proofs.ListLaws.{map-last, tabulate-last, total-next}
 use Rattle.atl_meaning.proofs.ValueLaws.{meant-Row}
 use Rattle.atl_meaning.proofs.evaluate.+evaluate.Goals as goal
@@ -30,50 +31,56 @@ rows-loop-i-preserved t c =
 pub evaluate-rows-requires : goal.evaluate-rows-requires
 evaluate-rows-requires t c =
     let s = c.args.sizes.now in
+    let f = fits-Gen s (extents_of (scope c.args.bindings.now)) c.args.term.now c.in-Gen.n c.in-Gen.e c.in-Gen.is c.requires.fits in
     let p = counted-Gen s c.args.term.now c.in-Gen.n c.in-Gen.e c.in-Gen.is c.requires.counted in
     let q = exact-Gen s c.args.term.now c.in-Gen.n c.in-Gen.e c.args.vars.now c.in-Gen.is c.requires.exact in
     let child = sym c.get-in-Gen.ensures in
-    (search (rules, the_lemmas), (p.0, (subst (λ (e : Term). counted s e ≡ true) child p.1, subst (λ (e : Term). exact_below s (extent c.in-Gen.n s) e c.args.vars.now ≡ true) child q)))
+    (search (rules, the_lemmas), (p.0, (subst (λ (e : Term). counted s e ≡ true) child p.1, (subst (λ (e : Term). fits_in s e c.args.bindings.now ≡ true) child f, subst (λ (e : Term). exact_below s (extent c.in-Gen.n s) e c.args.vars.now ≡ true) child q))))
 
 pub evaluate-sum-requires : goal.evaluate-sum-requires
 evaluate-sum-requires t c =
     let s = c.args.sizes.now in
+    let f = fits-Sum s (extents_of (scope c.args.bindings.now)) c.args.term.now c.in-Sum.n c.in-Sum.e c.in-Sum.is c.requires.fits in
     let p = counted-Sum s c.args.term.now c.in-Sum.n c.in-Sum.e c.in-Sum.is c.requires.counted in
     let q = exact-Sum s c.args.term.now c.in-Sum.n c.in-Sum.e c.args.vars.now c.in-Sum.is c.requires.exact in
     let child = sym c.get-in-Sum.ensures in
-    (search (rules, the_lemmas), (p.0, (subst (λ (e : Term). counted s e ≡ true) child p.1, subst (λ (e : Term). exact_below s (extent c.in-Sum.n s) e c.args.vars.now ≡ true) child q)))
+    (search (rules, the_lemmas), (p.0, (subst (λ (e : Term). counted s e ≡ true) child p.1, (subst (λ (e : Term). fits_in s e c.args.bindings.now ≡ true) child f, subst (λ (e : Term). exact_below s (extent c.in-Sum.n s) e c.args.vars.now ≡ true) child q))))
 
 pub evaluate-evaluate-requires-in-TruncL : goal.evaluate-evaluate-requires-in-TruncL
 evaluate-evaluate-requires-in-TruncL t c =
     let s = c.args.sizes.now in
+    let f = fits-TruncL s (extents_of (scope c.args.bindings.now)) c.args.term.now c.in-TruncL.n c.in-TruncL.e c.in-TruncL.is c.requires.fits in
     let p = counted-TruncL s c.args.term.now c.in-TruncL.n c.in-TruncL.e c.in-TruncL.is c.requires.counted in
     let q = exact-TruncL s c.args.term.now c.in-TruncL.n c.in-TruncL.e c.args.vars.now c.in-TruncL.is c.requires.exact in
     let child = sym c.get-in-TruncL.ensures in
-    (search (rules, the_lemmas), (subst (λ (e : Term). counted s e ≡ true) child p.1, subst (λ (e : Term). exact s e c.args.vars.now ≡ true) child q))
+    (search (rules, the_lemmas), (subst (λ (e : Term). counted s e ≡ true) child p.1, (subst (λ (e : Term). fits_in s e c.args.bindings.now ≡ true) child f, subst (λ (e : Term). exact s e c.args.vars.now ≡ true) child q)))
 
 pub evaluate-evaluate-requires-in-TruncR : goal.evaluate-evaluate-requires-in-TruncR
 evaluate-evaluate-requires-in-TruncR t c =
     let s = c.args.sizes.now in
+    let f = fits-TruncR s (extents_of (scope c.args.bindings.now)) c.args.term.now c.in-TruncR.n c.in-TruncR.e c.in-TruncR.is c.requires.fits in
     let p = counted-TruncR s c.args.term.now c.in-TruncR.n c.in-TruncR.e c.in-TruncR.is c.requires.counted in
     let q = exact-TruncR s c.args.term.now c.in-TruncR.n c.in-TruncR.e c.args.vars.now c.in-TruncR.is c.requires.exact in
     let child = sym c.get-in-TruncR.ensures in
-    (search (rules, the_lemmas), (subst (λ (e : Term). counted s e ≡ true) child p.1, subst (λ (e : Term). exact s e c.args.vars.now ≡ true) child q))
+    (search (rules, the_lemmas), (subst (λ (e : Term). counted s e ≡ true) child p.1, (subst (λ (e : Term). fits_in s e c.args.bindings.now ≡ true) child f, subst (λ (e : Term). exact s e c.args.vars.now ≡ true) child q)))
 
 pub evaluate-evaluate-requires-in-PadL : goal.evaluate-evaluate-requires-in-PadL
 evaluate-evaluate-requires-in-PadL t c =
     let s = c.args.sizes.now in
+    let f = fits-PadL s (extents_of (scope c.args.bindings.now)) c.args.term.now c.in-PadL.n c.in-PadL.e c.in-PadL.is c.requires.fits in
     let p = counted-PadL s c.args.term.now c.in-PadL.n c.in-PadL.e c.in-PadL.is c.requires.counted in
     let q = exact-PadL s c.args.term.now c.in-PadL.n c.in-PadL.e c.args.vars.now c.in-PadL.is c.requires.exact in
     let child = sym c.get-in-PadL.ensures in
-    (search (rules, the_lemmas), (subst (λ (e : Term). counted s e ≡ true) child p.1, subst (λ (e : Term). exact s e c.args.vars.now ≡ true) child q))
+    (search (rules, the_lemmas), (subst (λ (e : Term). counted s e ≡ true) child p.1, (subst (λ (e : Term). fits_in s e c.args.bindings.now ≡ true) child f.0, subst (λ (e : Term). exact s e c.args.vars.now ≡ true) child q)))
 
 pub evaluate-evaluate-requires-in-PadR : goal.evaluate-evaluate-requires-in-PadR
 evaluate-evaluate-requires-in-PadR t c =
     let s = c.args.sizes.now in
+    let f = fits-PadR s (extents_of (scope c.args.bindings.now)) c.args.term.now c.in-PadR.n c.in-PadR.e c.in-PadR.is c.requires.fits in
     let p = counted-PadR s c.args.term.now c.in-PadR.n c.in-PadR.e c.in-PadR.is c.requires.counted in
     let q = exact-PadR s c.args.term.now c.in-PadR.n c.in-PadR.e c.args.vars.now c.in-PadR.is c.requires.exact in
     let child = sym c.get-in-PadR.ensures in
-    (search (rules, the_lemmas), (subst (λ (e : Term). counted s e ≡ true) child p.1, subst (λ (e : Term). exact s e c.args.vars.now ≡ true) child q))
+    (search (rules, the_lemmas), (subst (λ (e : Term). counted s e ≡ true) child p.1, (subst (λ (e : Term). fits_in s e c.args.bindings.now ≡ true) child f.0, subst (λ (e : Term). exact s e c.args.vars.now ≡ true) child q)))
 
 pub evaluate-padded_before-requires-clause-counted : goal.evaluate-padded_before-requires-clause-counted
 evaluate-padded_before-requires-clause-counted t c =
@@ -81,11 +88,23 @@ evaluate-padded_before-requires-clause-counted t c =
     let p = counted-PadL s c.args.term.now c.in-PadL.n c.in-PadL.e c.in-PadL.is c.requires.counted in
     subst (λ (e : Term). counted s e ≡ true) (sym c.get-in-PadL-2.ensures) p.1
 
+pub evaluate-padded_before-requires-clause-fits : goal.evaluate-padded_before-requires-clause-fits
+evaluate-padded_before-requires-clause-fits t c =
+    let s = c.args.sizes.now in
+    let f = fits-PadL s (extents_of (scope c.args.bindings.now)) c.args.term.now c.in-PadL.n c.in-PadL.e c.in-PadL.is c.requires.fits in
+    (λ i. fits_in s (c.get-in-PadL-2.ensures i) (c.in_ok-tensor-in-PadL.ensures.bindings i)) ∙ f.0
+
 pub evaluate-padded_behind-requires-clause-counted : goal.evaluate-padded_behind-requires-clause-counted
 evaluate-padded_behind-requires-clause-counted t c =
     let s = c.args.sizes.now in
     let p = counted-PadR s c.args.term.now c.in-PadR.n c.in-PadR.e c.in-PadR.is c.requires.counted in
     subst (λ (e : Term). counted s e ≡ true) (sym c.get-in-PadR-2.ensures) p.1
+
+pub evaluate-padded_behind-requires-clause-fits : goal.evaluate-padded_behind-requires-clause-fits
+evaluate-padded_behind-requires-clause-fits t c =
+    let s = c.args.sizes.now in
+    let f = fits-PadR s (extents_of (scope c.args.bindings.now)) c.args.term.now c.in-PadR.n c.in-PadR.e c.in-PadR.is c.requires.fits in
+    (λ i. fits_in s (c.get-in-PadR-2.ensures i) (c.in_ok-tensor-in-PadR.ensures.bindings i)) ∙ f.0
 
 pub evaluate-returns-in-Sum-clause-value : goal.evaluate-returns-in-Sum-clause-value
 evaluate-returns-in-Sum-clause-value t c =
@@ -100,53 +119,75 @@ evaluate-returns-in-Sum-clause-value t c =
 pub evaluate-under-requires : goal.evaluate-under-requires
 evaluate-under-requires t c =
     let s = c.args.sizes.now in
+    let f = fits-Let s (extents_of (scope c.args.bindings.now)) c.args.term.now c.in-Let.a c.in-Let.b c.in-Let.is c.requires.fits in
     let p = counted-Let s c.args.term.now c.in-Let.a c.in-Let.b c.in-Let.is c.requires.counted in
     let q = exact-Let s c.args.term.now c.in-Let.a c.in-Let.b c.args.vars.now c.in-Let.is c.requires.exact in
     let same : c.evaluate.new.vars ≡ c.args.vars.now = c.in_ok-value-in-Let.ensures.vars in
+    let found = c.in_ok-found-in-Let.ensures.extents ∙ ap (λ e. extents_in s e c.args.bindings.now) c.get-in-Let.ensures in
+    let kept : c.evaluate.new.bindings ≡ c.args.bindings.now = c.in_ok-value-in-Let.ensures.bindings ∙ c.in_ok-found-in-Let.ensures.bindings in
+    let then = (λ i. (denoted s (c.get-in-Let-3.ensures i)).fits (found i ∷ extents_of (scope (kept i)))) ∙ f.1 in
     let later = subst (λ (r : List ℕ). exact s c.in-Let.b r ≡ true) (sym same) q.1 in
-    (search (rules, the_lemmas), (subst (λ (e : Term). counted s e ≡ true) (sym c.get-in-Let-3.ensures) p.1, subst (λ (e : Term). exact s e c.evaluate.new.vars ≡ true) (sym c.get-in-Let-3.ensures) later))
+    (search (rules, the_lemmas), (subst (λ (e : Term). counted s e ≡ true) (sym c.get-in-Let-3.ensures) p.1, (then, subst (λ (e : Term). exact s e c.evaluate.new.vars ≡ true) (sym c.get-in-Let-3.ensures) later)))
 
 pub evaluate-with_second-requires : goal.evaluate-with_second-requires
 evaluate-with_second-requires t c =
     let s = c.args.sizes.now in
+    let f = fits-Add s (extents_of (scope c.args.bindings.now)) c.args.term.now c.in-Add.a c.in-Add.b c.in-Add.is c.requires.fits in
     let p = counted-Add s c.args.term.now c.in-Add.a c.in-Add.b c.in-Add.is c.requires.counted in
     let q = exact-Add s c.args.term.now c.in-Add.a c.in-Add.b c.args.vars.now c.in-Add.is c.requires.exact in
     let same : c.evaluate-in-Add.new.vars ≡ c.args.vars.now = c.in_ok-first-in-Add.ensures.vars in
+    let kept : c.evaluate-in-Add.new.bindings ≡ c.args.bindings.now = c.in_ok-first-in-Add.ensures.bindings in
+    let then = (λ i. fits_in s (c.get-in-Add-2.ensures i) (kept i)) ∙ f.1 in
     let later = subst (λ (r : List ℕ). exact s c.in-Add.b r ≡ true) (sym same) q.1 in
-    (search (rules, the_lemmas), (subst (λ (e : Term). counted s e ≡ true) (sym c.get-in-Add-2.ensures) p.1, subst (λ (e : Term). exact s e c.evaluate-in-Add.new.vars ≡ true) (sym c.get-in-Add-2.ensures) later))
+    (search (rules, the_lemmas), (subst (λ (e : Term). counted s e ≡ true) (sym c.get-in-Add-2.ensures) p.1, (then, subst (λ (e : Term). exact s e c.evaluate-in-Add.new.vars ≡ true) (sym c.get-in-Add-2.ensures) later)))
 
 pub evaluate-with_second-requires-in-Sub : goal.evaluate-with_second-requires-in-Sub
 evaluate-with_second-requires-in-Sub t c =
     let s = c.args.sizes.now in
+    let f = fits-Sub s (extents_of (scope c.args.bindings.now)) c.args.term.now c.in-Sub.a c.in-Sub.b c.in-Sub.is c.requires.fits in
     let p = counted-Sub s c.args.term.now c.in-Sub.a c.in-Sub.b c.in-Sub.is c.requires.counted in
     let q = exact-Sub s c.args.term.now c.in-Sub.a c.in-Sub.b c.args.vars.now c.in-Sub.is c.requires.exact in
     let same : c.evaluate-in-Sub.new.vars ≡ c.args.vars.now = c.in_ok-first-in-Sub.ensures.vars in
+    let kept : c.evaluate-in-Sub.new.bindings ≡ c.args.bindings.now = c.in_ok-first-in-Sub.ensures.bindings in
+    let then = (λ i. fits_in s (c.get-in-Sub-2.ensures i) (kept i)) ∙ f.1 in
     let later = subst (λ (r : List ℕ). exact s c.in-Sub.b r ≡ true) (sym same) q.1 in
-    (search (rules, the_lemmas), (subst (λ (e : Term). counted s e ≡ true) (sym c.get-in-Sub-2.ensures) p.1, subst (λ (e : Term). exact s e c.evaluate-in-Sub.new.vars ≡ true) (sym c.get-in-Sub-2.ensures) later))
+    (search (rules, the_lemmas), (subst (λ (e : Term). counted s e ≡ true) (sym c.get-in-Sub-2.ensures) p.1, (then, subst (λ (e : Term). exact s e c.evaluate-in-Sub.new.vars ≡ true) (sym c.get-in-Sub-2.ensures) later)))
 
 pub evaluate-with_second-requires-in-Mul : goal.evaluate-with_second-requires-in-Mul
 evaluate-with_second-requires-in-Mul t c =
     let s = c.args.sizes.now in
+    let f = fits-Mul s (extents_of (scope c.args.bindings.now)) c.args.term.now c.in-Mul.a c.in-Mul.b c.in-Mul.is c.requires.fits in
     let p = counted-Mul s c.args.term.now c.in-Mul.a c.in-Mul.b c.in-Mul.is c.requires.counted in
     let q = exact-Mul s c.args.term.now c.in-Mul.a c.in-Mul.b c.args.vars.now c.in-Mul.is c.requires.exact in
     let same : c.evaluate-in-Mul.new.vars ≡ c.args.vars.now = c.in_ok-first-in-Mul.ensures.vars in
+    let kept : c.evaluate-in-Mul.new.bindings ≡ c.args.bindings.now = c.in_ok-first-in-Mul.ensures.bindings in
+    let then = (λ i. fits_in s (c.get-in-Mul-2.ensures i) (kept i)) ∙ f.1 in
     let later = subst (λ (r : List ℕ). exact s c.in-Mul.b r ≡ true) (sym same) q.1 in
-    (search (rules, the_lemmas), (subst (λ (e : Term). counted s e ≡ true) (sym c.get-in-Mul-2.ensures) p.1, subst (λ (e : Term). exact s e c.evaluate-in-Mul.new.vars ≡ true) (sym c.get-in-Mul-2.ensures) later))
+    (search (rules, the_lemmas), (subst (λ (e : Term). counted s e ≡ true) (sym c.get-in-Mul-2.ensures) p.1, (then, subst (λ (e : Term). exact s e c.evaluate-in-Mul.new.vars ≡ true) (sym c.get-in-Mul-2.ensures) later)))
 
 pub evaluate-followed_by-requires : goal.evaluate-followed_by-requires
 evaluate-followed_by-requires t c =
     let s = c.args.sizes.now in
+    let f = fits-Concat s (extents_of (scope c.args.bindings.now)) c.args.term.now c.in-Concat.a c.in-Concat.b c.in-Concat.is c.requires.fits in
     let p = counted-Concat s c.args.term.now c.in-Concat.a c.in-Concat.b c.in-Concat.is c.requires.counted in
     let q = exact-Concat s c.args.term.now c.in-Concat.a c.in-Concat.b c.args.vars.now c.in-Concat.is c.requires.exact in
     let same : c.evaluate-in-Concat.new.vars ≡ c.args.vars.now = c.in_ok-first-in-Concat.ensures.vars in
+    let kept : c.evaluate-in-Concat.new.bindings ≡ c.args.bindings.now = c.in_ok-first-in-Concat.ensures.bindings in
+    let then = (λ i. fits_in s (c.get-in-Concat-2.ensures i) (kept i)) ∙ f.0.1 in
     let later = subst (λ (r : List ℕ). exact s c.in-Concat.b r ≡ true) (sym same) q.1 in
-    (search (rules, the_lemmas), (subst (λ (e : Term). counted s e ≡ true) (sym c.get-in-Concat-2.ensures) p.1, subst (λ (e : Term). exact s e c.evaluate-in-Concat.new.vars ≡ true) (sym c.get-in-Concat-2.ensures) later))
+    (search (rules, the_lemmas), (subst (λ (e : Term). counted s e ≡ true) (sym c.get-in-Concat-2.ensures) p.1, (then, subst (λ (e : Term). exact s e c.evaluate-in-Concat.new.vars ≡ true) (sym c.get-in-Concat-2.ensures) later)))
 
 pub evaluate-chunked-requires-clause-counted : goal.evaluate-chunked-requires-clause-counted
 evaluate-chunked-requires-clause-counted t c =
     let s = c.args.sizes.now in
     let p = counted-Split s c.args.term.now c.in-Split.k c.in-Split.e c.in-Split.is c.requires.counted in
     subst (λ (e : Term). counted s e ≡ true) (sym c.get-in-Split-2.ensures) p.1
+
+pub evaluate-chunked-requires-clause-fits : goal.evaluate-chunked-requires-clause-fits
+evaluate-chunked-requires-clause-fits t c =
+    let s = c.args.sizes.now in
+    let f = fits-Split s (extents_of (scope c.args.bindings.now)) c.args.term.now c.in-Split.k c.in-Split.e c.in-Split.is c.requires.fits in
+    (λ i. fits_in s (c.get-in-Split-2.ensures i) (c.in_ok-tensor-in-Split.ensures.bindings i)) ∙ f
 
 pub evaluate-returns-in_ok-all-in-Gen-clause-value : goal.evaluate-returns-in_ok-all-in-Gen-clause-value
 evaluate-returns-in_ok-all-in-Gen-clause-value t c =
@@ -203,7 +244,7 @@ rows-evaluate-requires t c =
     let n = extent c.args.count.now s in
     let vars = c.in_ok-enter.ensures ∙ ap (λ v. i ∷ v) c.loop-i.invariant.vars in
     let below : i < n = omega (arith, c.extent-turns.ensures) in
-    (search (rules, the_lemmas), (c.requires.counted, subst (λ (v : List ℕ). exact s body v ≡ true) (sym vars) (below-at n (λ j. exact s body (j ∷ r)) i c.requires.exact below)))
+    (search (rules, the_lemmas), (c.requires.counted, (ap (fits_in s body) c.loop-i.invariant.bindings ∙ c.requires.fits, subst (λ (v : List ℕ). exact s body v ≡ true) (sym vars) (below-at n (λ j. exact s body (j ∷ r)) i c.requires.exact below))))
 
 pub summed-evaluate-requires : goal.summed-evaluate-requires
 summed-evaluate-requires t c =
@@ -213,30 +254,32 @@ summed-evaluate-requires t c =
     let k = c.loop-left.left - 1 in
     let vars = c.in_ok-enter.ensures ∙ ap (λ v. k ∷ v) c.loop-left.invariant.vars in
     let below : k < c.args.count = omega (arith, c.loop-left.invariant.within) in
-    (search (rules, the_lemmas), (c.requires.counted, subst (λ (v : List ℕ). exact s body v ≡ true) (sym vars) (below-at c.args.count (λ j. exact s body (j ∷ r)) k c.requires.exact below)))
+    (search (rules, the_lemmas), (c.requires.counted, (ap (fits_in s body) c.loop-left.invariant.bindings ∙ c.requires.fits, subst (λ (v : List ℕ). exact s body v ≡ true) (sym vars) (below-at c.args.count (λ j. exact s body (j ∷ r)) k c.requires.exact below))))
 
 pub evaluate-row-requires : goal.evaluate-row-requires
 evaluate-row-requires t c =
     let s = c.args.sizes.now in
+    let f = fits-Index s (extents_of (scope c.args.bindings.now)) c.args.term.now c.in-Index.e c.in-Index.x c.in-Index.is c.requires.fits in
     let p = counted-Index s c.args.term.now c.in-Index.e c.in-Index.x c.in-Index.is c.requires.counted in
     let q = exact-Index s c.args.term.now c.in-Index.e c.in-Index.x c.args.vars.now c.in-Index.is c.requires.exact in
     let child = sym c.get.ensures in
-    (search (rules, the_lemmas), (subst (λ (e : Term). counted s e ≡ true) child p, (subst (λ (e : Term). exact s e c.args.vars.now ≡ true) child q.0, q.1)))
+    (search (rules, the_lemmas), (subst (λ (e : Term). counted s e ≡ true) child p, (subst (λ (e : Term). fits_in s e c.args.bindings.now ≡ true) child f, (subst (λ (e : Term). exact s e c.args.vars.now ≡ true) child q.0, q.1))))
 
 pub evaluate-guarded-requires : goal.evaluate-guarded-requires
 evaluate-guarded-requires t c =
     let s = c.args.sizes.now in
+    let f = fits-Guard s (extents_of (scope c.args.bindings.now)) c.args.term.now c.in-Guard.c c.in-Guard.e c.in-Guard.is c.requires.fits in
     let p = counted-Guard s c.args.term.now c.in-Guard.c c.in-Guard.e c.in-Guard.is c.requires.counted in
     let q = exact-Guard s c.args.term.now c.in-Guard.c c.in-Guard.e c.args.vars.now c.in-Guard.is c.requires.exact in
     let child = sym c.get-in-Guard.ensures in
-    (search (rules, the_lemmas), (q.0, (subst (λ (e : Term). counted s e ≡ true) child p, subst (λ (e : Term). exact s e c.args.vars.now ≡ true) child q.1)))
+    (search (rules, the_lemmas), (q.0, (subst (λ (e : Term). counted s e ≡ true) child p, (subst (λ (e : Term). fits_in s e c.args.bindings.now ≡ true) child f, subst (λ (e : Term). exact s e c.args.vars.now ≡ true) child q.1))))
 
 pub sum-summed-requires : goal.sum-summed-requires
 sum-summed-requires t c =
     let s = c.args.sizes.now in
     let body = c.args.body.now in
     let r = c.args.vars.now in
-    (search (rules, the_lemmas), (c.requires.counted, subst (λ (n : ℕ). exact_below s n body r ≡ true) (sym c.extent-turns.ensures) c.requires.exact))
+    (search (rules, the_lemmas), (c.requires.counted, (ap (fits_in s body) c.in_ok-start.ensures.bindings ∙ c.requires.fits, subst (λ (n : ℕ). exact_below s n body r ≡ true) (sym c.extent-turns.ensures) c.requires.exact)))
 
 pub evaluate-shortened_first-requires : goal.evaluate-shortened_first-requires
 evaluate-shortened_first-requires t c = (counted-TruncL c.args.sizes.now c.args.term.now c.in-TruncL.n c.in-TruncL.e c.in-TruncL.is c.requires.counted).0
@@ -253,42 +296,47 @@ evaluate-padded_behind-requires-clause-count t c = (counted-PadR c.args.sizes.no
 pub evaluate-evaluate-requires : goal.evaluate-evaluate-requires
 evaluate-evaluate-requires t c =
     let s = c.args.sizes.now in
+    let f = fits-Let s (extents_of (scope c.args.bindings.now)) c.args.term.now c.in-Let.a c.in-Let.b c.in-Let.is c.requires.fits in
     let p = counted-Let s c.args.term.now c.in-Let.a c.in-Let.b c.in-Let.is c.requires.counted in
     let q = exact-Let s c.args.term.now c.in-Let.a c.in-Let.b c.args.vars.now c.in-Let.is c.requires.exact in
     let child = sym c.get-in-Let-2.ensures in
-    (search (rules, the_lemmas), (subst (λ (e : Term). counted s e ≡ true) child p.0, subst (λ (e : Term). exact s e c.args.vars.now ≡ true) child q.0))
+    (search (rules, the_lemmas), (subst (λ (e : Term). counted s e ≡ true) child p.0, ((λ i. fits_in s (c.get-in-Let-2.ensures i) (c.in_ok-found-in-Let.ensures.bindings i)) ∙ f.0, subst (λ (e : Term). exact s e c.args.vars.now ≡ true) child q.0)))
 
 pub evaluate-evaluate-requires-in-Add : goal.evaluate-evaluate-requires-in-Add
 evaluate-evaluate-requires-in-Add t c =
     let s = c.args.sizes.now in
+    let f = fits-Add s (extents_of (scope c.args.bindings.now)) c.args.term.now c.in-Add.a c.in-Add.b c.in-Add.is c.requires.fits in
     let p = counted-Add s c.args.term.now c.in-Add.a c.in-Add.b c.in-Add.is c.requires.counted in
     let q = exact-Add s c.args.term.now c.in-Add.a c.in-Add.b c.args.vars.now c.in-Add.is c.requires.exact in
     let child = sym c.get-in-Add.ensures in
-    (search (rules, the_lemmas), (subst (λ (e : Term). counted s e ≡ true) child p.0, subst (λ (e : Term). exact s e c.args.vars.now ≡ true) child q.0))
+    (search (rules, the_lemmas), (subst (λ (e : Term). counted s e ≡ true) child p.0, (subst (λ (e : Term). fits_in s e c.args.bindings.now ≡ true) child f.0, subst (λ (e : Term). exact s e c.args.vars.now ≡ true) child q.0)))
 
 pub evaluate-evaluate-requires-in-Sub : goal.evaluate-evaluate-requires-in-Sub
 evaluate-evaluate-requires-in-Sub t c =
     let s = c.args.sizes.now in
+    let f = fits-Sub s (extents_of (scope c.args.bindings.now)) c.args.term.now c.in-Sub.a c.in-Sub.b c.in-Sub.is c.requires.fits in
     let p = counted-Sub s c.args.term.now c.in-Sub.a c.in-Sub.b c.in-Sub.is c.requires.counted in
     let q = exact-Sub s c.args.term.now c.in-Sub.a c.in-Sub.b c.args.vars.now c.in-Sub.is c.requires.exact in
     let child = sym c.get-in-Sub.ensures in
-    (search (rules, the_lemmas), (subst (λ (e : Term). counted s e ≡ true) child p.0, subst (λ (e : Term). exact s e c.args.vars.now ≡ true) child q.0))
+    (search (rules, the_lemmas), (subst (λ (e : Term). counted s e ≡ true) child p.0, (subst (λ (e : Term). fits_in s e c.args.bindings.now ≡ true) child f.0, subst (λ (e : Term). exact s e c.args.vars.now ≡ true) child q.0)))
 
 pub evaluate-evaluate-requires-in-Mul : goal.evaluate-evaluate-requires-in-Mul
 evaluate-evaluate-requires-in-Mul t c =
     let s = c.args.sizes.now in
+    let f = fits-Mul s (extents_of (scope c.args.bindings.now)) c.args.term.now c.in-Mul.a c.in-Mul.b c.in-Mul.is c.requires.fits in
     let p = counted-Mul s c.args.term.now c.in-Mul.a c.in-Mul.b c.in-Mul.is c.requires.counted in
     let q = exact-Mul s c.args.term.now c.in-Mul.a c.in-Mul.b c.args.vars.now c.in-Mul.is c.requires.exact in
     let child = sym c.get-in-Mul.ensures in
-    (search (rules, the_lemmas), (subst (λ (e : Term). counted s e ≡ true) child p.0, subst (λ (e : Term). exact s e c.args.vars.now ≡ true) child q.0))
+    (search (rules, the_lemmas), (subst (λ (e : Term). counted s e ≡ true) child p.0, (subst (λ (e : Term). fits_in s e c.args.bindings.now ≡ true) child f.0, subst (λ (e : Term). exact s e c.args.vars.now ≡ true) child q.0)))
 
 pub evaluate-evaluate-requires-in-Concat : goal.evaluate-evaluate-requires-in-Concat
 evaluate-evaluate-requires-in-Concat t c =
     let s = c.args.sizes.now in
+    let f = fits-Concat s (extents_of (scope c.args.bindings.now)) c.args.term.now c.in-Concat.a c.in-Concat.b c.in-Concat.is c.requires.fits in
     let p = counted-Concat s c.args.term.now c.in-Concat.a c.in-Concat.b c.in-Concat.is c.requires.counted in
     let q = exact-Concat s c.args.term.now c.in-Concat.a c.in-Concat.b c.args.vars.now c.in-Concat.is c.requires.exact in
     let child = sym c.get-in-Concat.ensures in
-    (search (rules, the_lemmas), (subst (λ (e : Term). counted s e ≡ true) child p.0, subst (λ (e : Term). exact s e c.args.vars.now ≡ true) child q.0))
+    (search (rules, the_lemmas), (subst (λ (e : Term). counted s e ≡ true) child p.0, (subst (λ (e : Term). fits_in s e c.args.bindings.now ≡ true) child f.0.0, subst (λ (e : Term). exact s e c.args.vars.now ≡ true) child q.0)))
 
 pub evaluate-returns-in-WordOf-clause-value : goal.evaluate-returns-in-WordOf-clause-value
 evaluate-returns-in-WordOf-clause-value t c =
@@ -297,3 +345,18 @@ evaluate-returns-in-WordOf-clause-value t c =
     let bs = c.args.bindings.now in
     c.word_at.ensures ∙ ap (λ v. Word (word_of (items_value s v c.in-WordOf.x))) c.as_slice.ensures
     ∙ sym (ap (λ e. tensor_in s e r bs) c.in-WordOf.is ∙ ap (λ d. d.tensor r (scope bs)) (denoted-WordOf s c.in-WordOf.x))
+
+pub evaluate-extents-requires-clause-fits : goal.evaluate-extents-requires-clause-fits
+evaluate-extents-requires-clause-fits t c =
+    let s = c.args.sizes.now in
+    let f = fits-Let s (extents_of (scope c.args.bindings.now)) c.args.term.now c.in-Let.a c.in-Let.b c.in-Let.is c.requires.fits in
+    ap (λ e. fits_in s e c.args.bindings.now) c.get-in-Let.ensures ∙ f.0
+
+pub evaluate-evaluate-requires-in-Flatten : goal.evaluate-evaluate-requires-in-Flatten
+evaluate-evaluate-requires-in-Flatten t c =
+    let s = c.args.sizes.now in
+    let f = fits-Flatten s (extents_of (scope c.args.bindings.now)) c.args.term.now c.in-Flatten.e c.in-Flatten.is c.requires.fits in
+    let p = counted-Flatten s c.args.term.now c.in-Flatten.e c.in-Flatten.is c.requires.counted in
+    let q = exact-Flatten s c.args.term.now c.in-Flatten.e c.args.vars.now c.in-Flatten.is c.requires.exact in
+    let child = sym c.get-in-Flatten.ensures in
+    (search (rules, the_lemmas), (subst (λ (e : Term). counted s e ≡ true) child p, (subst (λ (e : Term). fits_in s e c.args.bindings.now ≡ true) child f.0, subst (λ (e : Term). exact s e c.args.vars.now ≡ true) child q)))

@@ -5,14 +5,8 @@ use Rattle.atl_meaning.specs.Answers.{IsDecided}
 use Rattle.atl_meaning.specs.Turns.{turn_folds}
 use Rattle.atl_meaning.specs.Values.{meant}
 use Rattle.atl_meaning.specs.Words.{module_big}
-use Rattle.atl_meaning.proofs.ModuleLaws.{big-of, dens-of, inputs-ready, outputs-ready, turns-of}
+use Rattle.atl_meaning.proofs.ModuleLaws.{big-of, dens-of, turns-of}
 use Rattle.atl_meaning.proofs.outputs.denote.Goals as goal
-
-pub answer-requires : goal.answer-requires
-answer-requires c =
-    let m = c.args.«module».now in
-    let s = c.args.sizes.now in
-    record { inputs = inputs-ready m s c.requires.sound c.requires.allowed; outputs = outputs-ready m s c.requires.sound c.requires.allowed; limit = c.requires.limit }
 
 pub returns-clause-tensors : goal.returns-clause-tensors
 returns-clause-tensors c =

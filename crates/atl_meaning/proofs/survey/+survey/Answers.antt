@@ -1,14 +1,16 @@
 use Rattle.std.proofs.Common.{◌≡◌, ◌∙◌, ◌∷◌, ◌+◌, [], IfOk, List, None, ℕ, ap, false, length, rules, subst, sym, true}
 use Rattle.term_tree.specs.declared.term.Term.{Term}
 use Rattle.term_tree.specs.declared.term.Term.TheViews.{the_lemmas}
-use Rattle.term_tree.specs.Shape.{Extents}
+use Rattle.std.specs.Prelude.{IsOk}
+use Rattle.term_tree.specs.Shape.{Extents, Shaped, shape_of}
 use Rattle.atl_meaning.specs.declared.found.Found.{Found}
-use Rattle.atl_meaning.specs.Forms.{chunked_forms, concatenated_forms, each_scoped, flattened_forms, lengthened_forms, shortened_forms, transposed_forms}
+use Rattle.atl_meaning.specs.Forms.{chunked_forms, concatenated_forms, each_scoped, each_within, flattened_forms, lengthened_forms, shortened_forms, transposed_forms}
 use Rattle.atl_meaning.specs.Lists.{rest_of}
 use Rattle.atl_meaning.specs.Scopes.{placed, sized}
 use Rattle.atl_meaning.specs.Surveyed.{found_at, surveyed, under_found}
 use Rattle.atl_meaning.specs.Words.{any_large_comparison, at_least_one, first_of, is_large, largest_index}
 use Rattle.atl_meaning.proofs.CodeLaws.{placed-Add, placed-Concat, placed-Gen, placed-Let, placed-Mul, placed-PadL, placed-PadR, placed-Sub, placed-Sum, placed-TruncL, placed-TruncR, sized-Add, sized-Concat, sized-Gen, sized-Let, sized-Mul, sized-PadL, sized-PadR, sized-Split, sized-Sub, sized-Sum, sized-TruncL, sized-TruncR}
+use Rattle.atl_meaning.proofs.ShapeCode.{shape-Index, shape-Gen, shape-Sum, shape-Guard, shape-Let, shape-Add, shape-Sub, shape-Mul, shape-Concat, shape-Flatten, shape-Split, shape-Transpose, shape-TruncL, shape-TruncR, shape-PadL, shape-PadR}
 use Rattle.atl_meaning.proofs.SurveyCode.{placed-Flatten, placed-Guard, placed-Index, placed-Split, placed-Transpose, sized-Flatten, sized-Guard, sized-Index, sized-Transpose, surveyed-Add, surveyed-Concat, surveyed-Flatten, surveyed-Gen, surveyed-Guard, surveyed-Index, surveyed-Let, surveyed-Mul, surveyed-PadL, surveyed-PadR, surveyed-Split, surveyed-Sub, surveyed-Sum, surveyed-Transpose, surveyed-TruncL, surveyed-TruncR, surveyed-WordOf}
 use Rattle.atl_meaning.proofs.survey.+survey.Goals as goal
 
@@ -17,112 +19,128 @@ survey-survey-requires t c =
     let k = length c.args.sizes.now in
     let s = sized-Index k c.args.term.now c.in-Index.e c.in-Index.x c.in-Index.is c.requires.sized in
     let p = placed-Index k c.args.term.now c.in-Index.e c.in-Index.x (length c.args.vars.now) c.in-Index.is c.requires.placed in
-    (search (rules, the_lemmas), (c.requires.floor, (subst (λ (e : Term). sized k e ≡ true) (sym c.get.ensures) s, (subst (λ (e : Term). placed k e (length c.args.vars.now) ≡ true) (sym c.get.ensures) p.0, c.requires.shapes))))
+    let h = shape-Index c.args.sizes.now c.args.vars.now c.args.shapes.now c.args.term.now c.in-Index.e c.in-Index.x c.in-Index.is c.requires.shaped in
+    (search (rules, the_lemmas), (c.requires.floor, (subst (λ (e : Term). sized k e ≡ true) (sym c.get.ensures) s, (subst (λ (e : Term). placed k e (length c.args.vars.now) ≡ true) (sym c.get.ensures) p.0, (c.requires.shapes, subst (λ (e : Term). IsOk (shape_of e c.args.shapes.now)) (sym c.get.ensures) h)))))
 
 pub survey-survey-requires-in-Guard : goal.survey-survey-requires-in-Guard
 survey-survey-requires-in-Guard t c =
     let k = length c.args.sizes.now in
     let s = sized-Guard k c.args.term.now c.in-Guard.c c.in-Guard.e c.in-Guard.is c.requires.sized in
     let p = placed-Guard k c.args.term.now c.in-Guard.c c.in-Guard.e (length c.args.vars.now) c.in-Guard.is c.requires.placed in
-    (search (rules, the_lemmas), (c.requires.floor, (subst (λ (e : Term). sized k e ≡ true) (sym c.get-in-Guard.ensures) s, (subst (λ (e : Term). placed k e (length c.args.vars.now) ≡ true) (sym c.get-in-Guard.ensures) p.1, c.requires.shapes))))
+    let h = shape-Guard c.args.sizes.now c.args.vars.now c.args.shapes.now c.args.term.now c.in-Guard.c c.in-Guard.e c.in-Guard.is c.requires.shaped in
+    (search (rules, the_lemmas), (c.requires.floor, (subst (λ (e : Term). sized k e ≡ true) (sym c.get-in-Guard.ensures) s, (subst (λ (e : Term). placed k e (length c.args.vars.now) ≡ true) (sym c.get-in-Guard.ensures) p.1, (c.requires.shapes, subst (λ (e : Term). IsOk (shape_of e c.args.shapes.now)) (sym c.get-in-Guard.ensures) h)))))
 
 pub survey-survey-requires-in-Let : goal.survey-survey-requires-in-Let
 survey-survey-requires-in-Let t c =
     let k = length c.args.sizes.now in
     let s = sized-Let k c.args.term.now c.in-Let.a c.in-Let.b c.in-Let.is c.requires.sized in
     let p = placed-Let k c.args.term.now c.in-Let.a c.in-Let.b (length c.args.vars.now) c.in-Let.is c.requires.placed in
-    (search (rules, the_lemmas), (c.requires.floor, (subst (λ (e : Term). sized k e ≡ true) (sym c.get-in-Let.ensures) s.0, (subst (λ (e : Term). placed k e (length c.args.vars.now) ≡ true) (sym c.get-in-Let.ensures) p.0, c.requires.shapes))))
+    let h = shape-Let c.args.sizes.now c.args.vars.now c.args.shapes.now c.args.term.now c.in-Let.a c.in-Let.b c.in-Let.is c.requires.shaped in
+    (search (rules, the_lemmas), (c.requires.floor, (subst (λ (e : Term). sized k e ≡ true) (sym c.get-in-Let.ensures) s.0, (subst (λ (e : Term). placed k e (length c.args.vars.now) ≡ true) (sym c.get-in-Let.ensures) p.0, (c.requires.shapes, subst (λ (e : Term). IsOk (shape_of e c.args.shapes.now)) (sym c.get-in-Let.ensures) h.0)))))
 
 pub survey-survey-requires-in-Add : goal.survey-survey-requires-in-Add
 survey-survey-requires-in-Add t c =
     let k = length c.args.sizes.now in
     let s = sized-Add k c.args.term.now c.in-Add.a c.in-Add.b c.in-Add.is c.requires.sized in
     let p = placed-Add k c.args.term.now c.in-Add.a c.in-Add.b (length c.args.vars.now) c.in-Add.is c.requires.placed in
-    (search (rules, the_lemmas), (c.requires.floor, (subst (λ (e : Term). sized k e ≡ true) (sym c.get-in-Add.ensures) s.0, (subst (λ (e : Term). placed k e (length c.args.vars.now) ≡ true) (sym c.get-in-Add.ensures) p.0, c.requires.shapes))))
+    let h = shape-Add c.args.sizes.now c.args.vars.now c.args.shapes.now c.args.term.now c.in-Add.a c.in-Add.b c.in-Add.is c.requires.shaped in
+    (search (rules, the_lemmas), (c.requires.floor, (subst (λ (e : Term). sized k e ≡ true) (sym c.get-in-Add.ensures) s.0, (subst (λ (e : Term). placed k e (length c.args.vars.now) ≡ true) (sym c.get-in-Add.ensures) p.0, (c.requires.shapes, subst (λ (e : Term). IsOk (shape_of e c.args.shapes.now)) (sym c.get-in-Add.ensures) h.0)))))
 
 pub survey-survey-requires-in-Sub : goal.survey-survey-requires-in-Sub
 survey-survey-requires-in-Sub t c =
     let k = length c.args.sizes.now in
     let s = sized-Sub k c.args.term.now c.in-Sub.a c.in-Sub.b c.in-Sub.is c.requires.sized in
     let p = placed-Sub k c.args.term.now c.in-Sub.a c.in-Sub.b (length c.args.vars.now) c.in-Sub.is c.requires.placed in
-    (search (rules, the_lemmas), (c.requires.floor, (subst (λ (e : Term). sized k e ≡ true) (sym c.get-in-Sub.ensures) s.0, (subst (λ (e : Term). placed k e (length c.args.vars.now) ≡ true) (sym c.get-in-Sub.ensures) p.0, c.requires.shapes))))
+    let h = shape-Sub c.args.sizes.now c.args.vars.now c.args.shapes.now c.args.term.now c.in-Sub.a c.in-Sub.b c.in-Sub.is c.requires.shaped in
+    (search (rules, the_lemmas), (c.requires.floor, (subst (λ (e : Term). sized k e ≡ true) (sym c.get-in-Sub.ensures) s.0, (subst (λ (e : Term). placed k e (length c.args.vars.now) ≡ true) (sym c.get-in-Sub.ensures) p.0, (c.requires.shapes, subst (λ (e : Term). IsOk (shape_of e c.args.shapes.now)) (sym c.get-in-Sub.ensures) h.0)))))
 
 pub survey-survey-requires-in-Mul : goal.survey-survey-requires-in-Mul
 survey-survey-requires-in-Mul t c =
     let k = length c.args.sizes.now in
     let s = sized-Mul k c.args.term.now c.in-Mul.a c.in-Mul.b c.in-Mul.is c.requires.sized in
     let p = placed-Mul k c.args.term.now c.in-Mul.a c.in-Mul.b (length c.args.vars.now) c.in-Mul.is c.requires.placed in
-    (search (rules, the_lemmas), (c.requires.floor, (subst (λ (e : Term). sized k e ≡ true) (sym c.get-in-Mul.ensures) s.0, (subst (λ (e : Term). placed k e (length c.args.vars.now) ≡ true) (sym c.get-in-Mul.ensures) p.0, c.requires.shapes))))
+    let h = shape-Mul c.args.sizes.now c.args.vars.now c.args.shapes.now c.args.term.now c.in-Mul.a c.in-Mul.b c.in-Mul.is c.requires.shaped in
+    (search (rules, the_lemmas), (c.requires.floor, (subst (λ (e : Term). sized k e ≡ true) (sym c.get-in-Mul.ensures) s.0, (subst (λ (e : Term). placed k e (length c.args.vars.now) ≡ true) (sym c.get-in-Mul.ensures) p.0, (c.requires.shapes, subst (λ (e : Term). IsOk (shape_of e c.args.shapes.now)) (sym c.get-in-Mul.ensures) h.0)))))
 
 pub survey-survey-requires-in-Concat : goal.survey-survey-requires-in-Concat
 survey-survey-requires-in-Concat t c =
     let k = length c.args.sizes.now in
     let s = sized-Concat k c.args.term.now c.in-Concat.a c.in-Concat.b c.in-Concat.is c.requires.sized in
     let p = placed-Concat k c.args.term.now c.in-Concat.a c.in-Concat.b (length c.args.vars.now) c.in-Concat.is c.requires.placed in
-    (search (rules, the_lemmas), (c.requires.floor, (subst (λ (e : Term). sized k e ≡ true) (sym c.get-in-Concat.ensures) s.0, (subst (λ (e : Term). placed k e (length c.args.vars.now) ≡ true) (sym c.get-in-Concat.ensures) p.0, c.requires.shapes))))
+    let h = shape-Concat c.args.sizes.now c.args.vars.now c.args.shapes.now c.args.term.now c.in-Concat.a c.in-Concat.b c.in-Concat.is c.requires.shaped in
+    (search (rules, the_lemmas), (c.requires.floor, (subst (λ (e : Term). sized k e ≡ true) (sym c.get-in-Concat.ensures) s.0, (subst (λ (e : Term). placed k e (length c.args.vars.now) ≡ true) (sym c.get-in-Concat.ensures) p.0, (c.requires.shapes, subst (λ (e : Term). IsOk (shape_of e c.args.shapes.now)) (sym c.get-in-Concat.ensures) h.0)))))
 
 pub survey-survey-requires-in-Flatten : goal.survey-survey-requires-in-Flatten
 survey-survey-requires-in-Flatten t c =
     let k = length c.args.sizes.now in
     let s = sized-Flatten k c.args.term.now c.in-Flatten.e c.in-Flatten.is c.requires.sized in
     let p = placed-Flatten k c.args.term.now c.in-Flatten.e (length c.args.vars.now) c.in-Flatten.is c.requires.placed in
-    (search (rules, the_lemmas), (c.requires.floor, (subst (λ (e : Term). sized k e ≡ true) (sym c.get-in-Flatten.ensures) s, (subst (λ (e : Term). placed k e (length c.args.vars.now) ≡ true) (sym c.get-in-Flatten.ensures) p, c.requires.shapes))))
+    let h = shape-Flatten c.args.sizes.now c.args.vars.now c.args.shapes.now c.args.term.now c.in-Flatten.e c.in-Flatten.is c.requires.shaped in
+    (search (rules, the_lemmas), (c.requires.floor, (subst (λ (e : Term). sized k e ≡ true) (sym c.get-in-Flatten.ensures) s, (subst (λ (e : Term). placed k e (length c.args.vars.now) ≡ true) (sym c.get-in-Flatten.ensures) p, (c.requires.shapes, subst (λ (e : Term). IsOk (shape_of e c.args.shapes.now)) (sym c.get-in-Flatten.ensures) h.0)))))
 
 pub survey-survey-requires-in-Split : goal.survey-survey-requires-in-Split
 survey-survey-requires-in-Split t c =
     let k = length c.args.sizes.now in
     let s = sized-Split k c.args.term.now c.in-Split.k c.in-Split.e c.in-Split.is c.requires.sized in
     let p = placed-Split k c.args.term.now c.in-Split.k c.in-Split.e (length c.args.vars.now) c.in-Split.is c.requires.placed in
-    (search (rules, the_lemmas), (c.requires.floor, (subst (λ (e : Term). sized k e ≡ true) (sym c.get-in-Split.ensures) s.1, (subst (λ (e : Term). placed k e (length c.args.vars.now) ≡ true) (sym c.get-in-Split.ensures) p, c.requires.shapes))))
+    let h = shape-Split c.args.sizes.now c.args.vars.now c.args.shapes.now c.args.term.now c.in-Split.k c.in-Split.e c.in-Split.is c.requires.shaped in
+    (search (rules, the_lemmas), (c.requires.floor, (subst (λ (e : Term). sized k e ≡ true) (sym c.get-in-Split.ensures) s.1, (subst (λ (e : Term). placed k e (length c.args.vars.now) ≡ true) (sym c.get-in-Split.ensures) p, (c.requires.shapes, subst (λ (e : Term). IsOk (shape_of e c.args.shapes.now)) (sym c.get-in-Split.ensures) h.0)))))
 
 pub survey-survey-requires-in-Transpose : goal.survey-survey-requires-in-Transpose
 survey-survey-requires-in-Transpose t c =
     let k = length c.args.sizes.now in
     let s = sized-Transpose k c.args.term.now c.in-Transpose.e c.in-Transpose.is c.requires.sized in
     let p = placed-Transpose k c.args.term.now c.in-Transpose.e (length c.args.vars.now) c.in-Transpose.is c.requires.placed in
-    (search (rules, the_lemmas), (c.requires.floor, (subst (λ (e : Term). sized k e ≡ true) (sym c.get-in-Transpose.ensures) s, (subst (λ (e : Term). placed k e (length c.args.vars.now) ≡ true) (sym c.get-in-Transpose.ensures) p, c.requires.shapes))))
+    let h = shape-Transpose c.args.sizes.now c.args.vars.now c.args.shapes.now c.args.term.now c.in-Transpose.e c.in-Transpose.is c.requires.shaped in
+    (search (rules, the_lemmas), (c.requires.floor, (subst (λ (e : Term). sized k e ≡ true) (sym c.get-in-Transpose.ensures) s, (subst (λ (e : Term). placed k e (length c.args.vars.now) ≡ true) (sym c.get-in-Transpose.ensures) p, (c.requires.shapes, subst (λ (e : Term). IsOk (shape_of e c.args.shapes.now)) (sym c.get-in-Transpose.ensures) h)))))
 
 pub survey-survey-requires-in-TruncL : goal.survey-survey-requires-in-TruncL
 survey-survey-requires-in-TruncL t c =
     let k = length c.args.sizes.now in
     let s = sized-TruncL k c.args.term.now c.in-TruncL.n c.in-TruncL.e c.in-TruncL.is c.requires.sized in
     let p = placed-TruncL k c.args.term.now c.in-TruncL.n c.in-TruncL.e (length c.args.vars.now) c.in-TruncL.is c.requires.placed in
-    (search (rules, the_lemmas), (c.requires.floor, (subst (λ (e : Term). sized k e ≡ true) (sym c.get-in-TruncL.ensures) s.1, (subst (λ (e : Term). placed k e (length c.args.vars.now) ≡ true) (sym c.get-in-TruncL.ensures) p, c.requires.shapes))))
+    let h = shape-TruncL c.args.sizes.now c.args.vars.now c.args.shapes.now c.args.term.now c.in-TruncL.n c.in-TruncL.e c.in-TruncL.is c.requires.shaped in
+    (search (rules, the_lemmas), (c.requires.floor, (subst (λ (e : Term). sized k e ≡ true) (sym c.get-in-TruncL.ensures) s.1, (subst (λ (e : Term). placed k e (length c.args.vars.now) ≡ true) (sym c.get-in-TruncL.ensures) p, (c.requires.shapes, subst (λ (e : Term). IsOk (shape_of e c.args.shapes.now)) (sym c.get-in-TruncL.ensures) h.0)))))
 
 pub survey-survey-requires-in-TruncR : goal.survey-survey-requires-in-TruncR
 survey-survey-requires-in-TruncR t c =
     let k = length c.args.sizes.now in
     let s = sized-TruncR k c.args.term.now c.in-TruncR.n c.in-TruncR.e c.in-TruncR.is c.requires.sized in
     let p = placed-TruncR k c.args.term.now c.in-TruncR.n c.in-TruncR.e (length c.args.vars.now) c.in-TruncR.is c.requires.placed in
-    (search (rules, the_lemmas), (c.requires.floor, (subst (λ (e : Term). sized k e ≡ true) (sym c.get-in-TruncR.ensures) s.1, (subst (λ (e : Term). placed k e (length c.args.vars.now) ≡ true) (sym c.get-in-TruncR.ensures) p, c.requires.shapes))))
+    let h = shape-TruncR c.args.sizes.now c.args.vars.now c.args.shapes.now c.args.term.now c.in-TruncR.n c.in-TruncR.e c.in-TruncR.is c.requires.shaped in
+    (search (rules, the_lemmas), (c.requires.floor, (subst (λ (e : Term). sized k e ≡ true) (sym c.get-in-TruncR.ensures) s.1, (subst (λ (e : Term). placed k e (length c.args.vars.now) ≡ true) (sym c.get-in-TruncR.ensures) p, (c.requires.shapes, subst (λ (e : Term). IsOk (shape_of e c.args.shapes.now)) (sym c.get-in-TruncR.ensures) h.0)))))
 
 pub survey-survey-requires-in-PadL : goal.survey-survey-requires-in-PadL
 survey-survey-requires-in-PadL t c =
     let k = length c.args.sizes.now in
     let s = sized-PadL k c.args.term.now c.in-PadL.n c.in-PadL.e c.in-PadL.is c.requires.sized in
     let p = placed-PadL k c.args.term.now c.in-PadL.n c.in-PadL.e (length c.args.vars.now) c.in-PadL.is c.requires.placed in
-    (search (rules, the_lemmas), (c.requires.floor, (subst (λ (e : Term). sized k e ≡ true) (sym c.get-in-PadL.ensures) s.1, (subst (λ (e : Term). placed k e (length c.args.vars.now) ≡ true) (sym c.get-in-PadL.ensures) p, c.requires.shapes))))
+    let h = shape-PadL c.args.sizes.now c.args.vars.now c.args.shapes.now c.args.term.now c.in-PadL.n c.in-PadL.e c.in-PadL.is c.requires.shaped in
+    (search (rules, the_lemmas), (c.requires.floor, (subst (λ (e : Term). sized k e ≡ true) (sym c.get-in-PadL.ensures) s.1, (subst (λ (e : Term). placed k e (length c.args.vars.now) ≡ true) (sym c.get-in-PadL.ensures) p, (c.requires.shapes, subst (λ (e : Term). IsOk (shape_of e c.args.shapes.now)) (sym c.get-in-PadL.ensures) h.0)))))
 
 pub survey-survey-requires-in-PadR : goal.survey-survey-requires-in-PadR
 survey-survey-requires-in-PadR t c =
     let k = length c.args.sizes.now in
     let s = sized-PadR k c.args.term.now c.in-PadR.n c.in-PadR.e c.in-PadR.is c.requires.sized in
     let p = placed-PadR k c.args.term.now c.in-PadR.n c.in-PadR.e (length c.args.vars.now) c.in-PadR.is c.requires.placed in
-    (search (rules, the_lemmas), (c.requires.floor, (subst (λ (e : Term). sized k e ≡ true) (sym c.get-in-PadR.ensures) s.1, (subst (λ (e : Term). placed k e (length c.args.vars.now) ≡ true) (sym c.get-in-PadR.ensures) p, c.requires.shapes))))
+    let h = shape-PadR c.args.sizes.now c.args.vars.now c.args.shapes.now c.args.term.now c.in-PadR.n c.in-PadR.e c.in-PadR.is c.requires.shaped in
+    (search (rules, the_lemmas), (c.requires.floor, (subst (λ (e : Term). sized k e ≡ true) (sym c.get-in-PadR.ensures) s.1, (subst (λ (e : Term). placed k e (length c.args.vars.now) ≡ true) (sym c.get-in-PadR.ensures) p, (c.requires.shapes, subst (λ (e : Term). IsOk (shape_of e c.args.shapes.now)) (sym c.get-in-PadR.ensures) h.0)))))
 
 pub survey-under_binder-requires : goal.survey-under_binder-requires
 survey-under_binder-requires t c =
     let k = length c.args.sizes.now in
     let s = sized-Gen k c.args.term.now c.in-Gen.n c.in-Gen.e c.in-Gen.is c.requires.sized in
     let p = placed-Gen k c.args.term.now c.in-Gen.n c.in-Gen.e (length c.args.vars.now) c.in-Gen.is c.requires.placed in
-    (search (rules, the_lemmas), (c.requires.floor, (s.0, (subst (λ (e : Term). sized k e ≡ true) (sym c.get-in-Gen.ensures) s.1, (subst (λ (e : Term). placed k e (length c.args.vars.now + 1) ≡ true) (sym c.get-in-Gen.ensures) p, c.requires.shapes)))))
+    let h = shape-Gen c.args.sizes.now c.args.vars.now c.args.shapes.now c.args.term.now c.in-Gen.n c.in-Gen.e c.in-Gen.is c.requires.shaped in
+    (search (rules, the_lemmas), (c.requires.floor, (s.0, (subst (λ (e : Term). sized k e ≡ true) (sym c.get-in-Gen.ensures) s.1, (subst (λ (e : Term). placed k e (length c.args.vars.now + 1) ≡ true) (sym c.get-in-Gen.ensures) p, (c.requires.shapes, subst (λ (e : Term). IsOk (shape_of e c.args.shapes.now)) (sym c.get-in-Gen.ensures) h))))))
 
 pub survey-under_binder-requires-in-Sum : goal.survey-under_binder-requires-in-Sum
 survey-under_binder-requires-in-Sum t c =
     let k = length c.args.sizes.now in
     let s = sized-Sum k c.args.term.now c.in-Sum.n c.in-Sum.e c.in-Sum.is c.requires.sized in
     let p = placed-Sum k c.args.term.now c.in-Sum.n c.in-Sum.e (length c.args.vars.now) c.in-Sum.is c.requires.placed in
-    (search (rules, the_lemmas), (c.requires.floor, (s.0, (subst (λ (e : Term). sized k e ≡ true) (sym c.get-in-Sum.ensures) s.1, (subst (λ (e : Term). placed k e (length c.args.vars.now + 1) ≡ true) (sym c.get-in-Sum.ensures) p, c.requires.shapes)))))
+    let h = shape-Sum c.args.sizes.now c.args.vars.now c.args.shapes.now c.args.term.now c.in-Sum.n c.in-Sum.e c.in-Sum.is c.requires.shaped in
+    (search (rules, the_lemmas), (c.requires.floor, (s.0, (subst (λ (e : Term). sized k e ≡ true) (sym c.get-in-Sum.ensures) s.1, (subst (λ (e : Term). placed k e (length c.args.vars.now + 1) ≡ true) (sym c.get-in-Sum.ensures) p, (c.requires.shapes, subst (λ (e : Term). IsOk (shape_of e c.args.shapes.now)) (sym c.get-in-Sum.ensures) h))))))
 
 pub survey-under_definition-requires : goal.survey-under_definition-requires
 survey-under_definition-requires t c =
@@ -131,8 +149,9 @@ survey-under_definition-requires t c =
     let p = placed-Let k c.args.term.now c.in-Let.a c.in-Let.b (length c.args.vars.now) c.in-Let.is c.requires.placed in
     let vars : c.survey-in-Let.new.vars ≡ c.args.vars.now = c.in_ok-first-in-Let.ensures.vars in
     let shapes : c.survey-in-Let.new.shapes ≡ c.args.shapes.now = c.in_ok-first-in-Let.ensures.shapes in
+    let h = shape-Let c.args.sizes.now c.args.vars.now c.args.shapes.now c.args.term.now c.in-Let.a c.in-Let.b c.in-Let.is c.requires.shaped in
     let later = subst (λ (r : List ℕ). placed k c.in-Let.b (length r) ≡ true) (sym vars) p.1 in
-    (search (rules, the_lemmas), (c.requires.floor, (subst (λ (e : Term). sized k e ≡ true) (sym c.get-in-Let-2.ensures) s.1, (subst (λ (e : Term). placed k e (length c.survey-in-Let.new.vars) ≡ true) (sym c.get-in-Let-2.ensures) later, (subst (λ (ts : List Extents). each_scoped k ts ≡ true) (sym shapes) c.requires.shapes, c.in_ok-first-in-Let.ensures.scoped)))))
+    (search (rules, the_lemmas), (c.requires.floor, (subst (λ (e : Term). sized k e ≡ true) (sym c.get-in-Let-2.ensures) s.1, (subst (λ (e : Term). placed k e (length c.survey-in-Let.new.vars) ≡ true) (sym c.get-in-Let-2.ensures) later, (subst (λ (ts : List Extents). each_scoped k ts ≡ true) (sym shapes) c.requires.shapes, (c.in_ok-first-in-Let.ensures.scoped, subst (λ (x : Shaped). IsOk x) (sym (λ i. shape_of (c.get-in-Let-2.ensures i) (((c.in_ok-first-in-Let.ensures.found ∙ ap (λ e. surveyed c.args.sizes.now e c.args.vars.now c.args.shapes.now) c.get-in-Let.ensures) i).extents ∷ shapes i))) h.1))))))
 
 pub survey-like_first-requires : goal.survey-like_first-requires
 survey-like_first-requires t c =
@@ -141,8 +160,9 @@ survey-like_first-requires t c =
     let p = placed-Add k c.args.term.now c.in-Add.a c.in-Add.b (length c.args.vars.now) c.in-Add.is c.requires.placed in
     let vars : c.survey-in-Add.new.vars ≡ c.args.vars.now = c.in_ok-first-in-Add.ensures.vars in
     let shapes : c.survey-in-Add.new.shapes ≡ c.args.shapes.now = c.in_ok-first-in-Add.ensures.shapes in
+    let h = shape-Add c.args.sizes.now c.args.vars.now c.args.shapes.now c.args.term.now c.in-Add.a c.in-Add.b c.in-Add.is c.requires.shaped in
     let later = subst (λ (r : List ℕ). placed k c.in-Add.b (length r) ≡ true) (sym vars) p.1 in
-    (search (rules, the_lemmas), (c.requires.floor, (subst (λ (e : Term). sized k e ≡ true) (sym c.get-in-Add-2.ensures) s.1, (subst (λ (e : Term). placed k e (length c.survey-in-Add.new.vars) ≡ true) (sym c.get-in-Add-2.ensures) later, (subst (λ (ts : List Extents). each_scoped k ts ≡ true) (sym shapes) c.requires.shapes, c.in_ok-first-in-Add.ensures.scoped)))))
+    (search (rules, the_lemmas), (c.requires.floor, (subst (λ (e : Term). sized k e ≡ true) (sym c.get-in-Add-2.ensures) s.1, (subst (λ (e : Term). placed k e (length c.survey-in-Add.new.vars) ≡ true) (sym c.get-in-Add-2.ensures) later, (subst (λ (ts : List Extents). each_scoped k ts ≡ true) (sym shapes) c.requires.shapes, (c.in_ok-first-in-Add.ensures.scoped, subst (λ (x : Shaped). IsOk x) (sym (λ i. shape_of (c.get-in-Add-2.ensures i) (shapes i))) h.1))))))
 
 pub survey-like_first-requires-in-Sub : goal.survey-like_first-requires-in-Sub
 survey-like_first-requires-in-Sub t c =
@@ -151,8 +171,9 @@ survey-like_first-requires-in-Sub t c =
     let p = placed-Sub k c.args.term.now c.in-Sub.a c.in-Sub.b (length c.args.vars.now) c.in-Sub.is c.requires.placed in
     let vars : c.survey-in-Sub.new.vars ≡ c.args.vars.now = c.in_ok-first-in-Sub.ensures.vars in
     let shapes : c.survey-in-Sub.new.shapes ≡ c.args.shapes.now = c.in_ok-first-in-Sub.ensures.shapes in
+    let h = shape-Sub c.args.sizes.now c.args.vars.now c.args.shapes.now c.args.term.now c.in-Sub.a c.in-Sub.b c.in-Sub.is c.requires.shaped in
     let later = subst (λ (r : List ℕ). placed k c.in-Sub.b (length r) ≡ true) (sym vars) p.1 in
-    (search (rules, the_lemmas), (c.requires.floor, (subst (λ (e : Term). sized k e ≡ true) (sym c.get-in-Sub-2.ensures) s.1, (subst (λ (e : Term). placed k e (length c.survey-in-Sub.new.vars) ≡ true) (sym c.get-in-Sub-2.ensures) later, (subst (λ (ts : List Extents). each_scoped k ts ≡ true) (sym shapes) c.requires.shapes, c.in_ok-first-in-Sub.ensures.scoped)))))
+    (search (rules, the_lemmas), (c.requires.floor, (subst (λ (e : Term). sized k e ≡ true) (sym c.get-in-Sub-2.ensures) s.1, (subst (λ (e : Term). placed k e (length c.survey-in-Sub.new.vars) ≡ true) (sym c.get-in-Sub-2.ensures) later, (subst (λ (ts : List Extents). each_scoped k ts ≡ true) (sym shapes) c.requires.shapes, (c.in_ok-first-in-Sub.ensures.scoped, subst (λ (x : Shaped). IsOk x) (sym (λ i. shape_of (c.get-in-Sub-2.ensures i) (shapes i))) h.1))))))
 
 pub survey-word_of_both-requires : goal.survey-word_of_both-requires
 survey-word_of_both-requires t c =
@@ -161,8 +182,9 @@ survey-word_of_both-requires t c =
     let p = placed-Mul k c.args.term.now c.in-Mul.a c.in-Mul.b (length c.args.vars.now) c.in-Mul.is c.requires.placed in
     let vars : c.survey-in-Mul.new.vars ≡ c.args.vars.now = c.in_ok-first-in-Mul.ensures.vars in
     let shapes : c.survey-in-Mul.new.shapes ≡ c.args.shapes.now = c.in_ok-first-in-Mul.ensures.shapes in
+    let h = shape-Mul c.args.sizes.now c.args.vars.now c.args.shapes.now c.args.term.now c.in-Mul.a c.in-Mul.b c.in-Mul.is c.requires.shaped in
     let later = subst (λ (r : List ℕ). placed k c.in-Mul.b (length r) ≡ true) (sym vars) p.1 in
-    (search (rules, the_lemmas), (c.requires.floor, (subst (λ (e : Term). sized k e ≡ true) (sym c.get-in-Mul-2.ensures) s.1, (subst (λ (e : Term). placed k e (length c.survey-in-Mul.new.vars) ≡ true) (sym c.get-in-Mul-2.ensures) later, (subst (λ (ts : List Extents). each_scoped k ts ≡ true) (sym shapes) c.requires.shapes, c.in_ok-first-in-Mul.ensures.scoped)))))
+    (search (rules, the_lemmas), (c.requires.floor, (subst (λ (e : Term). sized k e ≡ true) (sym c.get-in-Mul-2.ensures) s.1, (subst (λ (e : Term). placed k e (length c.survey-in-Mul.new.vars) ≡ true) (sym c.get-in-Mul-2.ensures) later, (subst (λ (ts : List Extents). each_scoped k ts ≡ true) (sym shapes) c.requires.shapes, (c.in_ok-first-in-Mul.ensures.scoped, subst (λ (x : Shaped). IsOk x) (sym (λ i. shape_of (c.get-in-Mul-2.ensures i) (shapes i))) h.1))))))
 
 pub survey-concatenated_node-requires : goal.survey-concatenated_node-requires
 survey-concatenated_node-requires t c =
@@ -171,8 +193,9 @@ survey-concatenated_node-requires t c =
     let p = placed-Concat k c.args.term.now c.in-Concat.a c.in-Concat.b (length c.args.vars.now) c.in-Concat.is c.requires.placed in
     let vars : c.survey-in-Concat.new.vars ≡ c.args.vars.now = c.in_ok-first-in-Concat.ensures.vars in
     let shapes : c.survey-in-Concat.new.shapes ≡ c.args.shapes.now = c.in_ok-first-in-Concat.ensures.shapes in
+    let h = shape-Concat c.args.sizes.now c.args.vars.now c.args.shapes.now c.args.term.now c.in-Concat.a c.in-Concat.b c.in-Concat.is c.requires.shaped in
     let later = subst (λ (r : List ℕ). placed k c.in-Concat.b (length r) ≡ true) (sym vars) p.1 in
-    (search (rules, the_lemmas), (c.requires.floor, (subst (λ (e : Term). sized k e ≡ true) (sym c.get-in-Concat-2.ensures) s.1, (subst (λ (e : Term). placed k e (length c.survey-in-Concat.new.vars) ≡ true) (sym c.get-in-Concat-2.ensures) later, (subst (λ (ts : List Extents). each_scoped k ts ≡ true) (sym shapes) c.requires.shapes, c.in_ok-first-in-Concat.ensures.scoped)))))
+    (search (rules, the_lemmas), (c.requires.floor, (subst (λ (e : Term). sized k e ≡ true) (sym c.get-in-Concat-2.ensures) s.1, (subst (λ (e : Term). placed k e (length c.survey-in-Concat.new.vars) ≡ true) (sym c.get-in-Concat-2.ensures) later, (subst (λ (ts : List Extents). each_scoped k ts ≡ true) (sym shapes) c.requires.shapes, (c.in_ok-first-in-Concat.ensures.scoped, (subst (λ (x : Shaped). IsOk x) (sym (λ i. shape_of (c.get-in-Concat-2.ensures i) (shapes i))) h.1, (λ i. each_within (concatenated_forms ((c.in_ok-first-in-Concat.ensures.found ∙ ap (λ e. surveyed c.args.sizes.now e c.args.vars.now c.args.shapes.now) c.get-in-Concat.ensures) i).extents (surveyed c.args.sizes.now (c.get-in-Concat-2.ensures i) (vars i) (shapes i)).extents)) ∙ h.2)))))))
 
 pub survey-returns-in_ok-child-in-Index-clause-found : goal.survey-returns-in_ok-child-in-Index-clause-found
 survey-returns-in_ok-child-in-Index-clause-found t c =
@@ -185,7 +208,7 @@ survey-returns-in_ok-child-in-Index-clause-found t c =
     let large : c.is_large-large-in-Index.result ≡ is_large (at_least_one s) vars c.in-Index.x = c.is_large-large-in-Index.ensures ∙ (λ i. is_large (c.requires.floor i) (seen i) c.in-Index.x) in
     let here = ap (λ ns. found_at s ns c.is_large-large-in-Index.result c.in_ok-child-in-Index.child.big) c.without_first.ensures
     ∙ ap (λ large. found_at s (rest_of c.in_ok-child-in-Index.child.extents) large c.in_ok-child-in-Index.child.big) large in
-    subst (λ (f : Found). IfOk c.at_node-in-Index.result (λ found. found ≡ f)) (here ∙ ap (λ f. found_at s (rest_of f.extents) (is_large (at_least_one s) vars c.in-Index.x) f.big) child ∙ sym whole) c.at_node-in-Index.ensures.found
+    c.at_node-in-Index.ensures.found ∙ here ∙ ap (λ f. found_at s (rest_of f.extents) (is_large (at_least_one s) vars c.in-Index.x) f.big) child ∙ sym whole
 
 pub survey-returns-in_ok-child-in-Guard-clause-found : goal.survey-returns-in_ok-child-in-Guard-clause-found
 survey-returns-in_ok-child-in-Guard-clause-found t c =
@@ -197,7 +220,7 @@ survey-returns-in_ok-child-in-Guard-clause-found t c =
     let seen : c.as_slice-in-Guard.result.now ≡ vars = c.as_slice-in-Guard.ensures ∙ c.in_ok-child-in-Guard.ensures.vars in
     let large : c.any_large_comparison-large.result ≡ any_large_comparison (at_least_one s) vars c.in-Guard.c.all = c.any_large_comparison-large.ensures ∙ (λ i. any_large_comparison (c.requires.floor i) (seen i) c.in-Guard.c.all) in
     let here = ap (λ large. found_at s c.in_ok-child-in-Guard.child.extents large c.in_ok-child-in-Guard.child.big) large in
-    subst (λ (f : Found). IfOk c.at_node-in-Guard.result (λ found. found ≡ f)) (here ∙ ap (λ f. found_at s f.extents (any_large_comparison (at_least_one s) vars c.in-Guard.c.all) f.big) child ∙ sym whole) c.at_node-in-Guard.ensures.found
+    c.at_node-in-Guard.ensures.found ∙ here ∙ ap (λ f. found_at s f.extents (any_large_comparison (at_least_one s) vars c.in-Guard.c.all) f.big) child ∙ sym whole
 
 pub survey-returns-in_ok-child-in-Gen-clause-found : goal.survey-returns-in_ok-child-in-Gen-clause-found
 survey-returns-in_ok-child-in-Gen-clause-found t c =
@@ -217,7 +240,7 @@ survey-returns-in_ok-child-in-Sum-clause-found t c =
     let whole = surveyed-Sum s vars ts c.args.term.now c.in-Sum.n c.in-Sum.e c.in-Sum.is in
     let large = c.is_large.ensures ∙ ap (λ floor. is_large floor [] c.in-Sum.n) c.requires.floor in
     let here = ap (λ large. found_at s c.in_ok-child-in-Sum.child.extents large c.in_ok-child-in-Sum.child.big) large in
-    subst (λ (f : Found). IfOk c.at_node-in-Sum.result (λ found. found ≡ f)) (here ∙ ap (λ f. found_at s f.extents (is_large (at_least_one s) [] c.in-Sum.n) f.big) child ∙ sym whole) c.at_node-in-Sum.ensures.found
+    c.at_node-in-Sum.ensures.found ∙ here ∙ ap (λ f. found_at s f.extents (is_large (at_least_one s) [] c.in-Sum.n) f.big) child ∙ sym whole
 
 pub survey-returns-in_ok-child-in-Flatten-clause-found : goal.survey-returns-in_ok-child-in-Flatten-clause-found
 survey-returns-in_ok-child-in-Flatten-clause-found t c =
@@ -345,4 +368,34 @@ survey-returns-in-WordOf-clause-found t c =
     let whole = surveyed-WordOf s vars c.args.shapes.now c.args.term.now x c.in-WordOf.is in
     let large : c.is_large-large.result ≡ is_large (at_least_one s) vars x = c.is_large-large.ensures ∙ (λ i. is_large (c.requires.floor i) (c.as_slice.ensures i) x) in
     let here = ap (λ ns. found_at s ns c.is_large-large.result None) c.new-in-WordOf.ensures ∙ ap (λ large. found_at s [] large None) large in
-    subst (λ (f : Found). IfOk c.at_node-in-WordOf.result (λ found. found ≡ f)) (here ∙ sym whole) c.at_node-in-WordOf.ensures.found
+    c.at_node-in-WordOf.ensures.found ∙ here ∙ sym whole
+
+pub survey-flattened_node-requires-clause-within : goal.survey-flattened_node-requires-clause-within
+survey-flattened_node-requires-clause-within t c =
+    let child = c.in_ok-child-in-Flatten.ensures.found ∙ ap (λ e. surveyed c.args.sizes.now e c.args.vars.now c.args.shapes.now) c.get-in-Flatten.ensures in
+    ap (λ f. each_within (flattened_forms f.extents)) child ∙ (shape-Flatten c.args.sizes.now c.args.vars.now c.args.shapes.now c.args.term.now c.in-Flatten.e c.in-Flatten.is c.requires.shaped).1
+
+pub survey-chunked_node-requires-clause-within : goal.survey-chunked_node-requires-clause-within
+survey-chunked_node-requires-clause-within t c =
+    let child = c.in_ok-child-in-Split.ensures.found ∙ ap (λ e. surveyed c.args.sizes.now e c.args.vars.now c.args.shapes.now) c.get-in-Split.ensures in
+    ap (λ f. each_within (chunked_forms c.in-Split.k f.extents)) child ∙ (shape-Split c.args.sizes.now c.args.vars.now c.args.shapes.now c.args.term.now c.in-Split.k c.in-Split.e c.in-Split.is c.requires.shaped).1
+
+pub survey-shortened_node-requires-clause-within : goal.survey-shortened_node-requires-clause-within
+survey-shortened_node-requires-clause-within t c =
+    let child = c.in_ok-child-in-TruncL.ensures.found ∙ ap (λ e. surveyed c.args.sizes.now e c.args.vars.now c.args.shapes.now) c.get-in-TruncL.ensures in
+    ap (λ f. each_within (shortened_forms c.in-TruncL.n f.extents)) child ∙ (shape-TruncL c.args.sizes.now c.args.vars.now c.args.shapes.now c.args.term.now c.in-TruncL.n c.in-TruncL.e c.in-TruncL.is c.requires.shaped).1
+
+pub survey-shortened_node-requires-in-TruncR-clause-within : goal.survey-shortened_node-requires-in-TruncR-clause-within
+survey-shortened_node-requires-in-TruncR-clause-within t c =
+    let child = c.in_ok-child-in-TruncR.ensures.found ∙ ap (λ e. surveyed c.args.sizes.now e c.args.vars.now c.args.shapes.now) c.get-in-TruncR.ensures in
+    ap (λ f. each_within (shortened_forms c.in-TruncR.n f.extents)) child ∙ (shape-TruncR c.args.sizes.now c.args.vars.now c.args.shapes.now c.args.term.now c.in-TruncR.n c.in-TruncR.e c.in-TruncR.is c.requires.shaped).1
+
+pub survey-lengthened_node-requires-clause-within : goal.survey-lengthened_node-requires-clause-within
+survey-lengthened_node-requires-clause-within t c =
+    let child = c.in_ok-child-in-PadL.ensures.found ∙ ap (λ e. surveyed c.args.sizes.now e c.args.vars.now c.args.shapes.now) c.get-in-PadL.ensures in
+    ap (λ f. each_within (lengthened_forms c.in-PadL.n f.extents)) child ∙ (shape-PadL c.args.sizes.now c.args.vars.now c.args.shapes.now c.args.term.now c.in-PadL.n c.in-PadL.e c.in-PadL.is c.requires.shaped).1
+
+pub survey-lengthened_node-requires-in-PadR-clause-within : goal.survey-lengthened_node-requires-in-PadR-clause-within
+survey-lengthened_node-requires-in-PadR-clause-within t c =
+    let child = c.in_ok-child-in-PadR.ensures.found ∙ ap (λ e. surveyed c.args.sizes.now e c.args.vars.now c.args.shapes.now) c.get-in-PadR.ensures in
+    ap (λ f. each_within (lengthened_forms c.in-PadR.n f.extents)) child ∙ (shape-PadR c.args.sizes.now c.args.vars.now c.args.shapes.now c.args.term.now c.in-PadR.n c.in-PadR.e c.in-PadR.is c.requires.shaped).1
