@@ -20,4 +20,3 @@ pub mod Substitution
 pub mod Sums
 pub mod UsesFold
 pub mod UsesLaws
-mod WorkedRows

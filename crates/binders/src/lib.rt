@@ -23,6 +23,3 @@ pub use putting_index::PutIndex;
 pub use putting_tensor::PutTensor;
 pub use refusal::MapRefusal;
 pub use var_map::VarMap;
-
-#[cfg(test)]
-mod tests;

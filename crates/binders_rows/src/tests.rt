@@ -1,11 +1,11 @@
-ghost use Rattle.std.specs.Prelude.{◌≡◌, ◌∷◌, [], ◌<◌, ◌≤◌, IfOk};
+ghost use Rattle.std.specs.Prelude.{◌≡◌, ◌∷◌, [], ◌<◌, ◌≤◌, IfOk, None};
 ghost use Rattle.affine_index.specs.Form.{size_form, var_form};
 ghost use Rattle.affine_index.specs.Sum.{sum_of};
+ghost use Rattle.binders.specs.Answers.{IsAnswer};
 ghost use Rattle.term_tree.specs.Counts.{node_depth};
 
-use crate::variables::variable;
-use crate::{MapRefusal, PutIndex, PutTensor, Shift, VarMap, free_index, free_tensor, map_term};
 use affine_index::Aff;
+use binders::{MapRefusal, PutIndex, PutTensor, Shift, VarMap, free_index, free_tensor, map_term};
 use sqlite_items::{Boxed, Items};
 use std::alloc::Global;
 use std::test::Fail;
@@ -110,6 +110,16 @@ fn what_is_put_under_a_let_is_moved(rt: HostRuntime) -> Result<(), Fail> {
     assert!(rt; same(&put_five(alloc, &term)?, &added(alloc, 6)?));
     assert!(rt; same(&moved(alloc, &term)?, &added(alloc, 3)?));
     Ok(())
+}
+
+/// The form of a variable.
+fn variable(alloc: Global, var: u32) -> Result<Aff, MapRefusal>
+    ensures { IsAnswer (var_form var) None result }
+{
+    match Aff::var(alloc, var) {
+        Ok(form) => Ok(form),
+        Err(_) => Err(MapRefusal::Memory),
+    }
 }
 
 /// Puts each variable for itself.

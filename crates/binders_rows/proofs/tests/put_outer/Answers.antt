@@ -1,5 +1,5 @@
-use Rattle.binders.proofs.WorkedRows.{may_put_outer}
-use Rattle.binders.proofs.tests.put_outer.Goals as goal
+use Rattle.binders_rows.proofs.WorkedRows.{may_put_outer}
+use Rattle.binders_rows.proofs.tests.put_outer.Goals as goal
 
 pub map_term-requires : goal.map_term-requires
 map_term-requires c =

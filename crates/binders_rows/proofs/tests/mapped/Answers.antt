@@ -1,6 +1,6 @@
 use Rattle.std.proofs.Common.{arith, refl, true}
 use Rattle.binders.proofs.ReachLaws.{within_everywhere}
-use Rattle.binders.proofs.tests.mapped.Goals as goal
+use Rattle.binders_rows.proofs.tests.mapped.Goals as goal
 
 pub map_term-requires : goal.map_term-requires
 map_term-requires c = record {
