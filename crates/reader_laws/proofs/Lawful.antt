@@ -60,16 +60,16 @@ lawful_as p rule other goes_on to from l = record {
 
 -- ---- single words
 
-read_ok : {A : Type 0} (r : Result A Fault) (i j : Input) (x : A) → read_as r i ≡ Ok (x, j) → (r ≡ Ok x) × (next i ≡ j)
+pub read_ok : {A : Type 0} (r : Result A Fault) (i j : Input) (x : A) → read_as r i ≡ Ok (x, j) → (r ≡ Ok x) × (next i ≡ j)
 read_ok (Ok v) i j x h = (ap (λ (y : _). Ok y) (ok_value v x (next i) j h), ok_input v x (next i) j h)
 read_ok (Err fault) i j x h = absurd cc
 
-on_read : {A : Type 0} (w : Word) (r : Result A Fault) → (w.kind ≡ k.End → ⊥) → LocalOn Nowhere w (read_as r)
+pub on_read : {A : Type 0} (w : Word) (r : Result A Fault) → (w.kind ≡ k.End → ⊥) → LocalOn Nowhere w (read_as r)
 on_read w (Ok x) some = on_bind Nowhere w take_word (λ _. pure x) (on_take Nowhere w some) (λ _. local_pure Nowhere x)
 on_read w (Err fault) some = on_local Nowhere w (refuse fault) (local_refuse Nowhere fault)
 
 -- a test of the next word
-on_cond : {A : Type 0} (b : Bool) (w : Word) (p q : Parser A) → (b ≡ true → LocalOn Nowhere w p) → LocalOn Nowhere w q → LocalOn Nowhere w (λ i. cond b (p i) (q i))
+pub on_cond : {A : Type 0} (b : Bool) (w : Word) (p q : Parser A) → (b ≡ true → LocalOn Nowhere w p) → LocalOn Nowhere w q → LocalOn Nowhere w (λ i. cond b (p i) (q i))
 on_cond true w p q hp hq = hp refl
 on_cond false w p q hp hq = hq
 

@@ -7,3 +7,5 @@ pub mod Whole
 pub mod Loops
 pub mod Longer
 pub mod Repeated
+pub mod LevelLaws
+pub mod Says

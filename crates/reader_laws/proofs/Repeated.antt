@@ -1,5 +1,5 @@
 -- Items, each after a word of one kind: beside the loop that reads them, and as their grammar says.
-use Rattle.std.proofs.Common.{◌≡◌, ℕ, zero, suc, ◌+◌, ◌-◌, ◌<◌, ◌≤◌, Bool, true, false, cond, inl, inr, List, [], ◌∷◌, ◌++◌, length, Option, Some, None, Result, Ok, Err, refl, sym, ap, subst, ◌∙◌, arith, length-append}
+use Rattle.std.proofs.Common.{◌≡◌, ℕ, zero, suc, ◌+◌, ◌-◌, ◌<◌, ◌≤◌, Bool, true, false, cond, inl, inr, List, length, Option, Some, None, Result, Ok, Err, refl, sym, ap, subst, ◌∙◌, arith}
 use Rattle.text_tokens.specs.declared.kind.Kind.{Kind}
 use Rattle.text_tokens.specs.declared.kind.Kind.TheVariants as k
 use Rattle.text_tokens.specs.Kinds.{same_kind}
@@ -8,11 +8,11 @@ use Rattle.reader_laws.specs.declared.fault.Fault.{Fault}
 use Rattle.reader_laws.specs.declared.fault.Fault.TheVariants.{TooDeep}
 use Rattle.reader_laws.specs.declared.fault.ReadError.{ReadError}
 use Rattle.reader_laws.specs.Steps.{Parser, refusal, kind}
-use Rattle.reader_laws.specs.Chain.{sign, signed, chain, repeated}
-use Rattle.reader_laws.specs.Grammar.{IsOfJoining, Both, IsChain, IsRepeated}
+use Rattle.reader_laws.specs.Chain.{sign, signed, repeated}
+use Rattle.reader_laws.specs.Grammar.{Both, IsRepeated}
 use Rattle.reader_laws.proofs.Outcomes.{ahead, ahead_append, is_same}
 use Rattle.reader_laws.proofs.Lawful.{Lawful}
-use Rattle.reader_laws.proofs.Chains.{lawful_chain, chain_keeps}
+use Rattle.reader_laws.proofs.Chains.{lawful_chain}
 use Rattle.reader_laws.proofs.Loops.{chain_stop, chain_went, chain_fell, chain_full}
 
 abbrev signs : Bool → Option (Unit {0})

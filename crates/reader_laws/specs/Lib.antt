@@ -1,3 +1,4 @@
 pub mod Steps
 pub mod Chain
 pub mod Grammar
+pub mod Levels

@@ -2,7 +2,9 @@
 #![tactic(auto)]
 
 mod fault;
+mod levels;
 mod step;
 
 pub use fault::{Fault, ReadError};
+pub use levels::{expect_in, misplaced_in, open};
 pub use step::{expect, finish, misplaced, place_of, refuse};

@@ -3,3 +3,5 @@ pub mod Lex
 pub mod Words
 pub mod Numbers
 pub mod Cursor
+pub mod Spelled
+pub mod Names
