@@ -6,11 +6,14 @@ pub mod Division
 pub mod EqualLaws
 pub mod EveryLaws
 pub mod Factors
+pub mod FormScopes
 pub mod GivenLaws
 pub mod Induction
 pub mod LimitLaws
 pub mod LimitedLaws
+pub mod Lists
 pub mod MagLaws
+pub mod MagnitudeBounds
 pub mod MagnitudeLaws
 pub mod MergeLaws
 pub mod MultipleLaws
@@ -32,6 +35,9 @@ pub mod RemainderLaws
 pub mod Renaming
 pub mod Ring
 pub mod Rows
+pub mod ScopeLaws
+pub mod ScopedForms
+pub mod ScopedMoves
 pub mod Sorted
 pub mod SumValue
 pub mod TotalOrder

@@ -1,9 +1,10 @@
 -- The equations of the magnitude, and its stop.
-use Rattle.std.proofs.Common.{◌≡◌, ℕ, suc, ◌+◌, ◌*◌, ◌<◌, ◌≤◌, List, [], ◌∷◌, ◌⊎◌, inl, inr, true, false, nat_le, zero, length, drop, get_or, map, min, refl, ap, sym, ◌∙◌, arith, drop-cons, add-one}
+use Rattle.std.proofs.Common.{◌≡◌, ℕ, suc, ◌+◌, ◌*◌, ◌<◌, ◌≤◌, List, [], ◌∷◌, ◌⊎◌, inl, inr, true, false, nat_le, zero, length, drop, get_or, map, min, refl, ap, sym, ◌∙◌, arith}
 use Rattle.std.specs.Prelude.{slice_index}
 use Rattle.std.specs.Int.RustNames.{unsigned_abs}
 use Rattle.affine_index.specs.Magnitude.{atom_magnitude, factors_magnitude, magnitude, magnitude_items_step, magnitude_step, product_of_magnitudes, sum_of_magnitudes, terms_magnitude}
 use Rattle.affine_index.proofs.LimitedLaws.{ready-Size, ready-Var, ready-Div, ready-Mul, ready-items}
+use Rattle.affine_index.proofs.Lists.{drop-item}
 use Rattle.affine_index.specs.declared.form.Atom.{Atom}
 use Rattle.affine_index.specs.declared.form.Atom.TheVariants.{Size, Var, Div, Mul, rolls-Size, rolls-Var, rolls-Mul, rolls-Div}
 use Rattle.affine_index.specs.declared.form.Item.{Item}
@@ -81,4 +82,4 @@ stop-times p m r l =
     back p m r = omega arith
 
 pub factors-next : (s v : List ℕ) (fs : List Atom) (at : ℕ) (x : Atom) → at < length fs → x ≡ get_or fs at x → factors_magnitude s v (drop at fs) ≡ atom_magnitude s v x * factors_magnitude s v (drop (at + 1) fs)
-factors-next s v fs at x h e = ap (factors_magnitude s v) (drop-cons fs at x h ∙ (λ k. sym e k ∷ drop (sym (add-one at) k) fs))
+factors-next s v fs at x h e = ap (factors_magnitude s v) (drop-item fs at x h e)

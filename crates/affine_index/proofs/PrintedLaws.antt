@@ -1,4 +1,4 @@
--- Where the magnitude is within the limit, no partial result of the text passes it.
+-- Where the magnitude is within the limit, no partial result of the text passes it, also from a sum so far where both are within the limit together.
 use Rattle.std.proofs.Common.{◌≡◌, ℕ, zero, suc, ◌+◌, ◌*◌, ◌<◌, ◌≤◌, List, [], ◌∷◌, length, map, refl, ap, sym, ◌∙◌, arith, Bool, true, false, nat_le, Option, Some}
 use Rattle.std.specs.Prelude.{ℤ, pos, negsuc, ◌+ℤ◌, ◌-ℤ◌, ◌*ℤ◌, slice_index, if◌then◌else◌}
 use Rattle.std.specs.Option.{option_and_then}
@@ -15,7 +15,8 @@ use Rattle.affine_index.specs.Printed.{WithinMaxima, add_constant, add_positive,
 use Rattle.affine_index.specs.Value.{atom_value, items_value, terms_value}
 use Rattle.affine_index.proofs.BoundLaws.{UpTo, atom_up}
 use Rattle.affine_index.proofs.Factors.{Ordered, mul_parts}
-use Rattle.affine_index.proofs.Induction.{Each, EachTerm, for_items}
+use Rattle.affine_index.proofs.Induction.{Each, EachTerm, for_atoms, for_items}
+use Rattle.affine_index.proofs.MagnitudeBounds.{abs-sum, both}
 use Rattle.affine_index.proofs.MagLaws.{mag-Div, mag-Mul, mag-items}
 use Rattle.affine_index.proofs.ReadyLaws.{ordered-Div, scoped-Div, scoped-Mul, scoped-items, scoped_term}
 use Rattle.affine_index.proofs.Ring.{*ℤ_assoc, *ℤ_distrib}
@@ -32,17 +33,8 @@ use Rattle.affine_index.specs.declared.form.Items.{Items}
 within-is : (limit : ℕ) (z : ℤ) → unsigned_abs z ≤ limit → within limit z ≡ Some z
 within-is limit z h = grind arith
 
-abs-sum : (a b : ℤ) → unsigned_abs (a +ℤ b) ≤ unsigned_abs a + unsigned_abs b
-abs-sum a b = grind (arith, ints)
-
-abs-minus : (a b : ℤ) → unsigned_abs (a -ℤ b) ≤ unsigned_abs a + unsigned_abs b
-abs-minus a b = grind (arith, ints)
-
 up-size : (x : ℤ) (m : ℕ) → UpTo x m → unsigned_abs x ≤ m
 up-size x m u = omega (arith, ap unsigned_abs u.is, u.most)
-
-both : (a b c d : ℕ) → a ≤ b → c ≤ d → a * c ≤ b * d
-both a b c d p q = grind arith
 
 least : (m n : ℕ) → 1 ≤ m → 1 ≤ n → 1 ≤ m * n
 least m n p q = grind arith
@@ -66,7 +58,8 @@ module _ (limit : ℕ) (s v maxima most : List ℕ) (ws : WithinMaxima s maxima)
   abbrev Scoped : Atom → Type 0
   Scoped a = atom_scoped (length maxima) (length most) a ≡ true
 
-  abbrev times : Atom → ℤ → Option ℤ
+  -- a number times an atom, as printed
+  abbrev pub times : Atom → ℤ → Option ℤ
   times = printed_times limit s v
 
   times-Size : (k : ℕ) (c : ℤ) → times (Size k) c ≡ within limit (c *ℤ pos (slice_index s k))
@@ -81,7 +74,8 @@ module _ (limit : ℕ) (s v maxima most : List ℕ) (ws : WithinMaxima s maxima)
   times-Mul : (fs : List Atom) (c : ℤ) → times (Mul fs) c ≡ through_all limit (map times fs) c
   times-Mul fs c = ap (λ a. times a c) (sym (rolls-Mul fs)) ∙ ap (λ f. f c) (fold-roll-Atom (ℤ → Option ℤ) (Option ℤ) (printed_step limit s v) (printed_items_step limit s v) (Atom-F.Mul fs))
 
-  abbrev printed_term : Item Atom → Item (ℤ → Option ℤ)
+  -- an item of which the atom takes its number through its factors
+  abbrev pub printed_term : Item Atom → Item (ℤ → Option ℤ)
   printed_term t = record { atom = times t.atom; coefficient = t.coefficient }
 
   abbrev AtomPrints : Atom → Type 0
@@ -309,29 +303,59 @@ module _ (limit : ℕ) (s v maxima most : List ℕ) (ws : WithinMaxima s maxima)
       let turned : total -ℤ pos (unsigned_abs c) ≡ total +ℤ c = omega (arith, ints, other-is c e) in
       ap (within limit) turned ∙ within-is limit (total +ℤ c) (omega (arith, abs-sum total c, q))
 
-  form_prints : (ts : List (Item Atom)) (c : ℤ) → EachTerm AtomPrints ts → FormPrints (record { terms = ts; constant = c })
-  form_prints ts c h o g q =
+  -- the text of a form, computed from a sum so far
+  abbrev pub printed_from : Items → ℤ → Option ℤ
+  printed_from i u =
+      option_and_then
+      (λ a. option_and_then (λ d. option_and_then (λ e. take_constant limit i.constant e) (take_others limit (map printed_term i.terms) d)) (add_constant limit i.constant a))
+      (add_positive limit (map printed_term i.terms) u)
+
+  abbrev PrintsFrom : Items → ℤ → Type 0
+  PrintsFrom i u = is_ordered i ≡ true → items_scoped (length maxima) (length most) i ≡ true → unsigned_abs u + magnitude maxima most i ≤ limit → printed_from i u ≡ Some (u +ℤ items_value s v i)
+
+  terms_print : (ts : List (Item Atom)) (c u : ℤ) → EachTerm AtomPrints ts → PrintsFrom (record { terms = ts; constant = c }) u
+  terms_print ts c u h o g q =
       let i : Items = record { terms = ts; constant = c } in
       let goods = (ordered-terms i o).1 in
       let sc = sym (scoped-items (length maxima) (length most) i) ∙ g in
       let b = is_positive c in
-      let p = positives ts in
+      let p = u +ℤ positives ts in
       let x = chosen b c in
       let y = others ts in
-      let z = chosen (other b) c in
-      let room : positives_size ts + others_size ts + (counted b (unsigned_abs c) + counted (other b) (unsigned_abs c)) ≤ limit = omega (arith, both_sizes ts, half_sizes b (unsigned_abs c), mag-items maxima most i, q) in
-      let size-p = positives-most ts goods sc in
+      let first = positives_size ts in
+      let second = others_size ts in
+      let sizes : first + second + (counted b (unsigned_abs c) + counted (other b) (unsigned_abs c)) ≡ magnitude maxima most i =
+      omega (arith, both_sizes ts, half_sizes b (unsigned_abs c), mag-items maxima most i) in
+      let room : unsigned_abs u + (first + second + (counted b (unsigned_abs c) + counted (other b) (unsigned_abs c))) ≤ limit = omega (arith, sizes, q) in
+      let size-p : unsigned_abs p ≤ unsigned_abs u + first = omega (arith, abs-sum u (positives ts), positives-most ts goods sc) in
       let size-x = chosen-size b c (unsigned_abs c) (omega arith) in
       let size-y = others-most ts goods sc in
-      let start : pos 0 +ℤ p ≡ p = omega (arith, ints) in
-      fold_out-Items (ℤ → Option ℤ) (Option ℤ) (printed_step limit s v) (printed_items_step limit s v) i
-      ∙ ap (option_and_then (λ a. option_and_then (λ d. option_and_then (λ e. take_constant limit c e) (take_others limit (map printed_term ts) d)) (add_constant limit c a)))
-      (add-prints ts (pos 0) h goods sc (omega (arith, room)) ∙ ap Some start)
+      let size-px = abs-sum p x in
+      ap (option_and_then (λ a. option_and_then (λ d. option_and_then (λ e. take_constant limit c e) (take_others limit (map printed_term ts) d)) (add_constant limit c a)))
+      (add-prints ts u h goods sc (omega (arith, room)))
       ∙ ap (option_and_then (λ d. option_and_then (λ e. take_constant limit c e) (take_others limit (map printed_term ts) d))) (add-constant c p b refl (omega (arith, room, size-p)))
-      ∙ ap (option_and_then (λ e. take_constant limit c e)) (take-prints ts (p +ℤ x) h goods sc (omega (arith, room, size-p, size-x, abs-sum p x)))
-      ∙ take-constant c ((p +ℤ x) +ℤ y) b refl (omega (arith, room, size-p, size-x, size-y, abs-sum p x, abs-sum (p +ℤ x) y))
+      ∙ ap (option_and_then (λ e. take_constant limit c e)) (take-prints ts (p +ℤ x) h goods sc (omega (arith, room, size-p, size-x, size-px)))
+      ∙ take-constant c ((p +ℤ x) +ℤ y) b refl (omega (arith, room, size-p, size-x, size-y, size-px, abs-sum (p +ℤ x) y))
       ∙ ap Some (omega (arith, ints, both_values ts, halves b c, items_value-is s v i))
+
+  form_prints : (ts : List (Item Atom)) (c : ℤ) → EachTerm AtomPrints ts → FormPrints (record { terms = ts; constant = c })
+  form_prints ts c h o g q =
+      let i : Items = record { terms = ts; constant = c } in
+      fold_out-Items (ℤ → Option ℤ) (Option ℤ) (printed_step limit s v) (printed_items_step limit s v) i
+      ∙ terms_print ts c (pos 0) h o g (omega (arith, q))
+      ∙ ap Some (from_none (items_value s v i))
+    where
+      from_none : (z : ℤ) → pos 0 +ℤ z ≡ z
+      from_none z = omega (arith, ints)
 
   -- the text of a normal form computes its value, and no partial result passes the limit
   pub printed : (i : Items) → FormPrints i
   printed = for_items AtomPrints FormPrints size_prints var_prints div_prints mul_prints form_prints
+
+  each_prints : (ts : List (Item Atom)) → EachTerm AtomPrints ts
+  each_prints [] = tt
+  each_prints (t ∷ ts) = (for_atoms AtomPrints FormPrints size_prints var_prints div_prints mul_prints form_prints t.atom, each_prints ts)
+
+  -- the same from a sum so far, where it and the magnitude are within the limit together
+  pub prints_from : (i : Items) (u : ℤ) → PrintsFrom i u
+  prints_from i u = terms_print i.terms i.constant u (each_prints i.terms)

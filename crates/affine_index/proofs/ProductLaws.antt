@@ -1,6 +1,6 @@
 -- One step of a product.
 use Rattle.std.proofs.lemmas.List.{drop_all}
-use Rattle.std.proofs.Common.{◌≡◌, ℕ, ◌+◌, ◌*◌, ◌<◌, ◌≤◌, ◌⊎◌, inl, inr, List, [], ◌∷◌, ◌++◌, append-nil, length, drop, get_or, add-one, drop-cons, refl, ap, sym, ◌∙◌, arith}
+use Rattle.std.proofs.Common.{◌≡◌, ℕ, ◌+◌, ◌*◌, ◌<◌, ◌≤◌, ◌⊎◌, inl, inr, List, [], ◌∷◌, ◌++◌, append-nil, length, drop, get_or, refl, ap, sym, ◌∙◌, arith}
 use Rattle.std.specs.Int.RustNames.{unsigned_abs}
 use Rattle.std.specs.declared.cmp.Ordering.TheVariants.{Less, Equal, Greater}
 use Rattle.affine_index.specs.Form.{of_atom}
@@ -8,6 +8,7 @@ use Rattle.affine_index.specs.Order.{atom_order}
 use Rattle.affine_index.specs.Product.{atom_product, atom_products, atom_times, factor_onto, factor_onto_by, merged_factors, term_products}
 use Rattle.affine_index.specs.Sum.{add_up, scaled, sum_of}
 use Rattle.affine_index.specs.Wide.{terms_norm}
+use Rattle.affine_index.proofs.Lists.{drop-item}
 use Rattle.affine_index.proofs.Factors.{factors-Size, factors-Var, factors-Div, factors-Mul}
 use Rattle.affine_index.specs.declared.form.Atom.{Atom}
 use Rattle.affine_index.specs.declared.form.Item.{Item}
@@ -31,10 +32,6 @@ factors-end i j a b (inl h) = rw (drop_all i a h) refl
 factors-end i j a b (inr h) = rw (drop_all j b h) (factors-nil (drop i a) ∙ sym (append-nil (drop i a)))
 
 pub ruleset product_laws = (factors-Less, factors-Equal, factors-Greater, factors-Size, factors-Var, factors-Div, factors-Mul)
-
--- the first of the items that are left
-pub drop-item : (ts : List (Item Atom)) (at : ℕ) (t : Item Atom) → at < length ts → t ≡ get_or ts at t → drop at ts ≡ t ∷ drop (at + 1) ts
-drop-item ts at t h e = drop-cons ts at t h ∙ (λ k. sym e k ∷ drop (sym (add-one at) k) ts)
 
 pub atom_times-step : (x : Atom) (ts : List (Item Atom)) (at : ℕ) (t : Item Atom) (start : Items) → at < length ts → t ≡ get_or ts at t
     → add_up (atom_products x (drop (at + 1) ts)) (sum_of start (scaled t.coefficient (of_atom (atom_product x t.atom)))) ≡ add_up (atom_products x (drop at ts)) start

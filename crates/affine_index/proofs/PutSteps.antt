@@ -1,5 +1,5 @@
 -- What the calls owe one another where forms are put for variables.
-use Rattle.std.proofs.Common.{◌≡◌, ℕ, zero, suc, ◌+◌, ◌*◌, ◌^◌, ◌<◌, ◌≤◌, ◌⊎◌, inl, inr, List, [], ◌∷◌, length, map, drop, get_or, drop-cons, add-one, refl, ap, sym, ◌∙◌, subst, true, arith, nat_le}
+use Rattle.std.proofs.Common.{◌≡◌, ℕ, zero, suc, ◌+◌, ◌*◌, ◌^◌, ◌<◌, ◌≤◌, ◌⊎◌, inl, inr, List, [], ◌∷◌, length, map, drop, get_or, refl, ap, sym, ◌∙◌, subst, true, arith, nat_le}
 use Rattle.std.specs.Prelude.{ℤ, pos, negsuc}
 use Rattle.std.specs.Int.RustNames.{unsigned_abs}
 use Rattle.std.proofs.lemmas.Bool.{and_from, and_parts}
@@ -14,6 +14,7 @@ use Rattle.affine_index.specs.Wide.{norm}
 use Rattle.affine_index.proofs.CountLaws.{count-Div, count-Mul}
 use Rattle.affine_index.proofs.Factors.{OneVar, Ordered, mul_parts}
 use Rattle.affine_index.proofs.Induction.{Each}
+use Rattle.affine_index.proofs.Lists.{drop-item}
 use Rattle.affine_index.proofs.NormLaws.{scaled-norm}
 use Rattle.affine_index.proofs.PutLaws.{put-items}
 use Rattle.affine_index.proofs.PutNorm.{atom_small, factors_norm, fit_is, normal-norm, normal_parts, terms_most}
@@ -65,9 +66,6 @@ each-at P (f ∷ fs) (suc at) d h lt = each-at P fs at d h.1 (omega arith)
 pub factor-ordered : (fs : List Atom) (at : ℕ) (x : Atom) → Ordered (Mul fs) → at < length fs → x ≡ get_or fs at x → Ordered x
 factor-ordered fs at x o h e = subst Ordered (sym e) (each-at Ordered fs at x (mul_parts fs o).good.ordered h)
 
-pub drop-factor : (fs : List Atom) (at : ℕ) (x : Atom) → at < length fs → x ≡ get_or fs at x → drop at fs ≡ x ∷ drop (at + 1) fs
-drop-factor fs at x h e = drop-cons fs at x h ∙ (λ k. sym e k ∷ drop (sym (add-one at) k) fs)
-
 total-drop : (fs : List Atom) (at : ℕ) → total (map atom_count (drop at fs)) ≤ total (map atom_count fs)
 total-drop [] zero = omega arith
 total-drop [] (suc at) = omega arith
@@ -75,7 +73,7 @@ total-drop (f ∷ fs) zero = omega arith
 total-drop (f ∷ fs) (suc at) = omega (arith, total-drop fs at)
 
 pub factor-few : (fs : List Atom) (at : ℕ) (x : Atom) → total (map atom_count fs) ≤ 128 → at < length fs → x ≡ get_or fs at x → atom_count x ≤ 128
-factor-few fs at x n h e = omega (arith, total-drop fs at, ap (λ gs. total (map atom_count gs)) (drop-factor fs at x h e), n)
+factor-few fs at x n h e = omega (arith, total-drop fs at, ap (λ gs. total (map atom_count gs)) (drop-item fs at x h e), n)
 
 each-drop : (P : Atom → Type 0) (fs : List Atom) (at : ℕ) → Each P fs → Each P (drop at fs)
 each-drop P [] zero h = tt
@@ -91,7 +89,7 @@ one-drop (f ∷ fs) (suc at) h = one-drop fs at h.1
 
 pub product-next : (f : ℕ → Items) (fs : List Atom) (at : ℕ) (x : Atom) (form forms : Items) → at < length fs → x ≡ get_or fs at x → form ≡ put_atom f x → forms ≡ product_of_all (map (put_atom f) (drop (at + 1) fs))
     → product_of form forms ≡ product_of_all (map (put_atom f) (drop at fs))
-product-next f fs at x form forms h e p q = (λ k. product_of (p k) (q k)) ∙ ap (λ gs. product_of_all (map (put_atom f) gs)) (sym (drop-factor fs at x h e))
+product-next f fs at x form forms h e p q = (λ k. product_of (p k) (q k)) ∙ ap (λ gs. product_of_all (map (put_atom f) gs)) (sym (drop-item fs at x h e))
 
 most : (m n c d : ℕ) → m ≤ c → n ≤ d → m * n ≤ c * d
 most m n c d p q = grind arith
@@ -140,10 +138,6 @@ module _ (f : ℕ → Items) (normal : (v : ℕ) → is_normal (f v) ≡ true) w
   pub dividend-room : (i form : Items) → is_normal i ≡ true → form ≡ put_all f i → norm form + 1 < 2 ^ 127
   dividend-room i form h e = omega (arith, ap norm e, put_all-norm i h)
 
--- the items that are left, from one on
-pub terms-at : (ts : List (Item Atom)) (at : ℕ) (t : Item Atom) → at < length ts → t ≡ get_or ts at t → drop at ts ≡ t ∷ drop (at + 1) ts
-terms-at ts at t h e = drop-cons ts at t h ∙ (λ k. sym e k ∷ drop (sym (add-one at) k) ts)
-
 every-drop : (ts : List (Item Atom)) (at : ℕ) → terms_every atom_good items_good ts ≡ true → terms_every atom_good items_good (drop at ts) ≡ true
 every-drop [] zero h = h
 every-drop [] (suc at) h = h
@@ -170,14 +164,14 @@ pub record ItemFacts (t : Item Atom) : Type 0 where
 
 pub item_facts : (ts : List (Item Atom)) (at : ℕ) (t : Item Atom) → at < length ts → t ≡ get_or ts at t → terms_every atom_good items_good ts ≡ true → terms_fit ts ≡ true → terms_count ts ≤ 128 → ItemFacts t
 item_facts ts at t h e o f n =
-    let d = terms-at ts at t h e in
+    let d = drop-item ts at t h e in
     let os = and_parts (atom_is_ordered t.atom) (terms_every atom_good items_good (drop (at + 1) ts)) (sym (ap (terms_every atom_good items_good) d) ∙ every-drop ts at o) in
     let fs = and_parts (coefficient_fits t.coefficient) (terms_fit (drop (at + 1) ts)) (sym (ap terms_fit d) ∙ fit-drop ts at f) in
     record { ordered = os.0; coefficient = fit_is t.coefficient fs.0; short = omega (arith, count-drop ts at, ap terms_count d, n) }
 
 pub put_terms-next : (f : ℕ → Items) (ts : List (Item Atom)) (at : ℕ) (t : Item Atom) (start : Items) → at < length ts → t ≡ get_or ts at t
     → put_terms f (drop (at + 1) ts) (sum_of start (scaled t.coefficient (put_atom f t.atom))) ≡ put_terms f (drop at ts) start
-put_terms-next f ts at t start h e = ap (λ us. put_terms f us start) (sym (terms-at ts at t h e))
+put_terms-next f ts at t start h e = ap (λ us. put_terms f us start) (sym (drop-item ts at t h e))
 
 -- how large the sum of items so far may be, with those that are left
 abbrev pub room : List (Item Atom) → ℕ
@@ -189,7 +183,7 @@ module _ (f : ℕ → Items) (normal : (v : ℕ) → is_normal (f v) ≡ true) w
       omega (arith, scaled-norm t.coefficient (put_atom f t.atom), most (unsigned_abs t.coefficient) (norm (put_atom f t.atom)) (2 ^ 40) (atom_count t.atom * 2 ^ 48) g.coefficient (atom_small f (2 ^ 48) (omega arith) (λ v. normal-norm (f v) (normal v)) t.atom g.ordered))
 
   pub room-next : (ts : List (Item Atom)) (at : ℕ) (t : Item Atom) → at < length ts → t ≡ get_or ts at t → ItemFacts t → norm (scaled t.coefficient (put_atom f t.atom)) + room (drop (at + 1) ts) ≤ room (drop at ts)
-  room-next ts at t h e g = omega (arith, item-size t g, ap terms_count (terms-at ts at t h e))
+  room-next ts at t h e g = omega (arith, item-size t g, ap terms_count (drop-item ts at t h e))
 
   pub scaled-fits : (t : Item Atom) (form : Items) → ItemFacts t → form ≡ put_atom f t.atom → unsigned_abs t.coefficient * norm form < 2 ^ 127
   scaled-fits t form g e =

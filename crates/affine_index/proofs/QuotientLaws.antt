@@ -7,7 +7,7 @@ use Rattle.affine_index.specs.Quotient.{item_of, quotient_atom, rest_part, whole
 use Rattle.affine_index.specs.Sum.{item_if}
 use Rattle.affine_index.specs.Wide.{norm}
 use Rattle.affine_index.proofs.NormLaws.{quotient_atom-norm, whole-most}
-use Rattle.affine_index.proofs.ProductLaws.{drop-item}
+use Rattle.affine_index.proofs.Lists.{drop-item}
 use Rattle.affine_index.specs.declared.form.Atom.{Atom}
 use Rattle.affine_index.specs.declared.form.Item.{Item}
 use Rattle.affine_index.specs.declared.form.Items.{Items}

@@ -1,5 +1,5 @@
 -- A scoped normal form can be computed.
-use Rattle.std.proofs.Common.{◌≡◌, ℕ, List, [], ◌∷◌, map, refl, ap, sym, ◌∙◌, arith, Bool, true, nat_lt, nat_le, ◌+◌, ◌<◌, length, drop, get_or, drop-cons, add-one}
+use Rattle.std.proofs.Common.{◌≡◌, ℕ, List, [], ◌∷◌, map, refl, ap, sym, ◌∙◌, arith, Bool, true, nat_lt, nat_le, ◌+◌, ◌<◌, length, drop, get_or}
 use Rattle.std.specs.Prelude.{ℤ}
 use Rattle.std.proofs.lemmas.Bool.{and_from, and_parts}
 use Rattle.affine_index.specs.Every.{atoms_every, terms_every}
@@ -8,6 +8,7 @@ use Rattle.affine_index.specs.Normal.{atom_good, atom_is_ordered, is_normal, is_
 use Rattle.affine_index.proofs.EveryLaws.{every-Div, every-Mul, every-items}
 use Rattle.affine_index.proofs.Induction.{Each, EachTerm, for_items}
 use Rattle.affine_index.proofs.LimitedLaws.{ready-Size, ready-Var, ready-Div, ready-Mul, ready-items}
+use Rattle.affine_index.proofs.Lists.{drop-item}
 use Rattle.affine_index.specs.declared.form.Atom.{Atom, out-Atom}
 use Rattle.affine_index.specs.declared.form.Item.{Item}
 use Rattle.affine_index.specs.declared.form.Items.{Items}
@@ -122,5 +123,5 @@ module _ (s v : ℕ) where
 
 pub atoms-ready-next : (s v : ℕ) (fs : List Atom) (at : ℕ) (x : Atom) → at < length fs → x ≡ get_or fs at x → atoms_ready s v (drop at fs) ≡ true → atoms_ready s v (drop (at + 1) fs) ≡ true
 atoms-ready-next s v fs at x h e r =
-    let d : drop at fs ≡ x ∷ drop (at + 1) fs = drop-cons fs at x h ∙ (λ k. sym e k ∷ drop (sym (add-one at) k) fs) in
+    let d : drop at fs ≡ x ∷ drop (at + 1) fs = drop-item fs at x h e in
     (and_parts (atom_ready s v x) (atoms_ready s v (drop (at + 1) fs)) (sym (ap (atoms_ready s v) d) ∙ r)).1

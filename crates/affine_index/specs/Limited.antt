@@ -88,6 +88,16 @@ module _ (sizes vars : ℕ) where
   abbrev pub items_scoped : Items → Bool
   items_scoped = fold-Items Bool Bool scoped_step scoped_items_step
 
+  -- the same of a list of atoms
+  abbrev pub atoms_scoped : List Atom → Bool
+  atoms_scoped [] = true
+  atoms_scoped (a ∷ as') = atom_scoped a && atoms_scoped as'
+
+  -- the same of a list of items
+  abbrev pub terms_scoped : List (Item Atom) → Bool
+  terms_scoped [] = true
+  terms_scoped (t ∷ ts) = atom_scoped t.atom && terms_scoped ts
+
   -- scoped, and each divisor is above 0
   abbrev pub ready_step : Atom-F Bool Bool → Bool
   ready_step (Atom-F.Size s) = nat_lt s sizes

@@ -1,10 +1,11 @@
 //! Forms in normal form, within the limits.
 
-ghost use Rattle.std.specs.Prelude.{◌^◌, min, true, ◌≡◌, ◌↔◌, length, IfOk, IfSome, IsTrue, MatchResult};
+ghost use Rattle.std.specs.Prelude.{◌^◌, min, true, ◌≡◌, ◌↔◌, ℕ, length, IfOk, IfSome, IsTrue, MatchResult};
 ghost use Rattle.affine_index.specs.Form.{literal_form, of_atom, size_form, var_form};
 ghost use Rattle.affine_index.specs.Limited.{items_scoped, limited_value};
 ghost use Rattle.affine_index.specs.Magnitude.{magnitude};
 ghost use Rattle.affine_index.specs.Normal.{Refused, coefficient_fits, is_normal, is_ordered};
+ghost use Rattle.affine_index.specs.Put.{given};
 ghost use Rattle.affine_index.specs.Value.{items_value};
 
 use crate::copy::copy_items;
@@ -14,6 +15,7 @@ use crate::limits::{coefficients_fit, narrowed};
 use crate::mag::items_mag;
 use crate::refusal::AffRefusal;
 use crate::same::same_items;
+use crate::scope::items_scoped;
 use crate::value::items_value;
 use crate::wide::Wide;
 use std::alloc::{AllocError, Global};
@@ -106,6 +108,13 @@ impl Aff {
         let _ = &self.items;
     }
 
+    /// Whether each number of a size is below `sizes` and each number of a variable below `vars`, at every depth. Linear in the atoms.
+    pub fn is_scoped(&self, sizes: usize, vars: usize) -> bool
+        ensures { result ≡ items_scoped sizes vars self.now }
+    {
+        items_scoped(self.items(), sizes, vars)
+    }
+
     /// The value where size s is `sizes[s]` and variable v is `vars[v]`, or None where a partial result, the coefficient of an item before its factors, is 2^120 or more in size.
     pub fn value(&self, sizes: &[u64], vars: &[u64]) -> Option<i128>
         requires { IsTrue (items_scoped (length sizes.now) (length vars.now) self.now) }
@@ -121,6 +130,15 @@ impl Aff {
         ensures { result ≡ min (magnitude maxima.now vars.now self.now) (2 ^ 63) }
     {
         items_mag(&self.items, maxima, vars)
+    }
+}
+
+/// Tells a proof that each form is normal, and does nothing else.
+pub fn all_told(forms: &[Aff])
+    ensures { (v : ℕ) → is_normal (given forms.now v) ≡ true }
+{
+    for form in forms {
+        form.told();
     }
 }
 

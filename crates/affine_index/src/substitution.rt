@@ -7,19 +7,10 @@ ghost use Rattle.affine_index.specs.Put.{given, numbers_fit, put_all, put_var, s
 ghost use Rattle.affine_index.specs.Puts.{AllNormal, what_put};
 ghost use Rattle.affine_index.specs.Value.{items_value};
 
-use crate::aff::{Aff, within_limits};
+use crate::aff::{Aff, all_told, within_limits};
 use crate::put::{Put, put_items};
 use crate::refusal::AffRefusal;
 use std::alloc::Global;
-
-/// Tells a proof that each form is normal, and does nothing else.
-fn all_told(forms: &[Aff])
-    ensures { (v : ℕ) → is_normal (given forms.now v) ≡ true }
-{
-    for form in forms {
-        form.told();
-    }
-}
 
 /// A form with what is put for its variables, within the limits.
 fn put(alloc: Global, form: &Aff, by: &Put) -> Result<Aff, AffRefusal>
