@@ -1,0 +1,15 @@
+pub mod AnswerLaws
+pub mod ChildLaws
+pub mod CountLaws
+pub mod EndLaws
+pub mod FocusLaws
+pub mod FocusMeaning
+pub mod FrameLaws
+pub mod GoalLaws
+pub mod KnownLaws
+pub mod ModuleLaws
+pub mod MovedLaws
+pub mod PlaceLaws
+pub mod ProperLaws
+pub mod SteadyLaws
+pub mod WayLaws
