@@ -1,0 +1,10 @@
+pub mod Limits
+pub mod Index
+pub mod Scope
+pub mod Conditions
+pub mod Terms
+pub mod Source
+pub mod ReadIndex
+pub mod ReadConditions
+pub mod ReadTerms
+pub mod ReadSource
