@@ -1,0 +1,5 @@
+pub mod Reckoned
+pub mod TreeExact
+pub mod TreeFits
+pub mod TreeLaws
+pub mod TreeValue
