@@ -1,0 +1,9 @@
+pub mod Composed
+pub mod FreeValue
+pub mod GoodLaws
+pub mod IndexLaws
+pub mod LiftLaws
+pub mod PlaceLaws
+pub mod RowOrder
+pub mod SendLaws
+pub mod StepLaws
