@@ -2,3 +2,4 @@ mod Folds
 mod Loops
 mod Places
 mod Examples
+mod Sizes

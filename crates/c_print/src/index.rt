@@ -2,6 +2,7 @@
 
 ghost use Rattle.std.specs.Prelude.{◌≡◌, ◌++◌, OnOk, codes, decimal, pos};
 ghost use Rattle.c_print.specs.Index.{index_literal, index_fold, index_text, size_name, loop_name};
+ghost use Rattle.c_print.specs.Level.{in_place};
 ghost use Rattle.c_print.specs.declared.level.Level.TheVariants as level;
 
 use crate::fault::PrintFault;
@@ -52,41 +53,51 @@ impl Writer {
         self.put(b")")
     }
 
-    /// An operator with a number on its right, and what stands behind.
-    fn put_divisor(&mut self, sign: &[u8], k: u64, after: &[u8]) -> Result<(), PrintFault>
-        ensures { OnOk result (self.new ≡ self.old ++ (sign.now ++ index_literal (pos k) ++ after.now)) }
+    /// A product, quotient or remainder of a number on the right, in parentheses where the place needs them.
+    #[tactic(auto, using(crate::proofs::Places::place_laws))]
+    #[cycle(index)]
+    fn put_over(&mut self, place: Level, left: &Iexp, sign: &[u8], k: u64) -> Result<(), PrintFault>
+        ensures { OnOk result (self.new ≡ self.old ++ in_place Level.Product place (index_fold left.now Level.Product ++ sign.now ++ index_literal (pos k))) }
     {
+        self.put(Level::Product.opening(place))?;
+        self.put_operand(left, Level::Product)?;
         self.put(sign)?;
         self.put_positive(k)?;
-        self.put(after)
+        self.put(Level::Product.closing(place))
     }
 
-    /// What stands before an operand, and the operand.
-    #[cycle(index)]
-    fn put_left(&mut self, before: &[u8], index: &Iexp, place: Level) -> Result<(), PrintFault>
-        ensures { OnOk result (self.new ≡ self.old ++ (before.now ++ index_fold index.now place)) }
-    {
-        self.put(before)?;
-        self.put_operand(index, place)
-    }
-
-    /// What stands between operands, the right one, and what stands behind.
-    #[cycle(index)]
-    fn put_right(
-        &mut self,
-        sign: &[u8],
-        index: &Iexp,
-        place: Level,
-        after: &[u8],
-    ) -> Result<(), PrintFault>
-        ensures { OnOk result (self.new ≡ self.old ++ (sign.now ++ index_fold index.now place ++ after.now)) }
-    {
-        self.put(sign)?;
-        self.put_operand(index, place)?;
-        self.put(after)
-    }
-
+    /// Two operands with a sign between them, in parentheses where the place needs them.
     #[tactic(auto, using(crate::proofs::Places::place_laws))]
+    #[cycle(index)]
+    fn put_pair(
+        &mut self,
+        own: Level,
+        place: Level,
+        left: &Iexp,
+        sign: &[u8],
+        right: &Iexp,
+        tighter: Level,
+    ) -> Result<(), PrintFault>
+        ensures { OnOk result (self.new ≡ self.old ++ in_place own place (index_fold left.now own ++ sign.now ++ index_fold right.now tighter)) }
+    {
+        self.put(own.opening(place))?;
+        self.put_operand(left, own)?;
+        self.put(sign)?;
+        self.put_operand(right, tighter)?;
+        self.put(own.closing(place))
+    }
+
+    #[cycle(index)]
+    fn put_larger(&mut self, left: &Iexp, right: &Iexp) -> Result<(), PrintFault>
+        ensures { OnOk result (self.new ≡ self.old ++ (codes "top(" ++ index_fold left.now Level.Choice ++ codes ", " ++ index_fold right.now Level.Choice ++ codes ")")) }
+    {
+        self.put(b"top(")?;
+        self.put_operand(left, Level::Choice)?;
+        self.put(b", ")?;
+        self.put_operand(right, Level::Choice)?;
+        self.put(b")")
+    }
+
     #[cycle(index)]
     fn put_operand(&mut self, index: &Iexp, place: Level) -> Result<(), PrintFault>
         ensures { OnOk result (self.new ≡ self.old ++ index_fold index.now place) }
@@ -96,29 +107,17 @@ impl Writer {
             Iexp::Size(k) => self.put_size(*k),
             Iexp::Loop(depth) => self.put_loop(b"", u64::from(*depth)),
             Iexp::Add(a, b) => {
-                self.put_left(Level::Sum.opening(place), a.get(), Level::Sum)?;
-                self.put_right(b" + ", b.get(), Level::Product, Level::Sum.closing(place))
+                self.put_pair(Level::Sum, place, a.get(), b" + ", b.get(), Level::Product)
             }
             Iexp::Sub(a, b) => {
-                self.put_left(Level::Sum.opening(place), a.get(), Level::Sum)?;
-                self.put_right(b" - ", b.get(), Level::Product, Level::Sum.closing(place))
+                self.put_pair(Level::Sum, place, a.get(), b" - ", b.get(), Level::Product)
             }
             Iexp::Mul(a, b) => {
-                self.put_left(Level::Product.opening(place), a.get(), Level::Product)?;
-                self.put_right(b" * ", b.get(), Level::Part, Level::Product.closing(place))
+                self.put_pair(Level::Product, place, a.get(), b" * ", b.get(), Level::Part)
             }
-            Iexp::Div(a, k) => {
-                self.put_left(Level::Product.opening(place), a.get(), Level::Product)?;
-                self.put_divisor(b" / ", *k, Level::Product.closing(place))
-            }
-            Iexp::Rem(a, k) => {
-                self.put_left(Level::Product.opening(place), a.get(), Level::Product)?;
-                self.put_divisor(b" % ", *k, Level::Product.closing(place))
-            }
-            Iexp::Larger(a, b) => {
-                self.put_left(b"top(", a.get(), Level::Choice)?;
-                self.put_right(b", ", b.get(), Level::Choice, b")")
-            }
+            Iexp::Div(a, k) => self.put_over(place, a.get(), b" / ", *k),
+            Iexp::Rem(a, k) => self.put_over(place, a.get(), b" % ", *k),
+            Iexp::Larger(a, b) => self.put_larger(a.get(), b.get()),
         }
     }
 

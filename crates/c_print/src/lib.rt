@@ -11,3 +11,4 @@ mod writer;
 
 pub use fault::PrintFault;
 pub use program::print_c;
+pub use word::buffer_name;

@@ -144,6 +144,15 @@ impl Writer {
         self.put_line(level, b"}")
     }
 
+    /// The same inside one loop more.
+    #[cycle(statement)]
+    fn put_turns(&mut self, body: &Stmt, level: u64, depth: u64) -> Result<(), PrintFault>
+        ensures { OnOk result (self.new ≡ self.old ++ block (statement_text body.now) level (depth + 1)) }
+    {
+        let inner = deeper(depth)?;
+        self.put_block(body, level, inner)
+    }
+
     #[cycle(statement)]
     pub fn put_statement(&mut self, stmt: &Stmt, level: u64, depth: u64) -> Result<(), PrintFault>
         ensures { OnOk result (self.new ≡ self.old ++ statement_text stmt.now level depth) }
@@ -156,8 +165,7 @@ impl Writer {
                 body,
             } => {
                 self.put_for(level, depth, *parallel, bound)?;
-                let inner = deeper(depth)?;
-                self.put_block(body.get(), level, inner)
+                self.put_turns(body.get(), level, depth)
             }
             Stmt::If(tests, body) => {
                 self.put_if(level, tests.as_slice())?;

@@ -1,7 +1,8 @@
 //! Buffers, tests and word expressions.
 
-ghost use Rattle.std.specs.Prelude.{◌≡◌, ◌++◌, OnOk, decimal};
+ghost use Rattle.std.specs.Prelude.{◌≡◌, ◌++◌, IfOk, OnOk, codes, decimal, string_bytes};
 ghost use Rattle.std.specs.List.{flat_map};
+ghost use Rattle.c_print.specs.Level.{in_place};
 ghost use Rattle.c_print.specs.Word.{buffer_name, element_text, relation_text, test_text, and_test, tests_text, word_literal, converted, word_text, word_fold};
 
 use crate::fault::PrintFault;
@@ -9,6 +10,7 @@ use crate::level::Level;
 use crate::writer::Writer;
 use affine_index::Rel;
 use loop_lang::{Buf, Iexp, Test, Wexp};
+use std::alloc::{AllocError, Global};
 
 fn relation(rel: Rel) -> &'static [u8]
     ensures { result.now ≡ relation_text rel }
@@ -19,6 +21,18 @@ fn relation(rel: Rel) -> &'static [u8]
         Rel::Gt => b" > ",
         Rel::Ge => b" >= ",
         Rel::Eq => b" == ",
+    }
+}
+
+/// The name of a buffer in the text, also for messages about it.
+#[tactic(auto, unfolding(crate::specs::Word::buffer_name))]
+pub fn buffer_name(alloc: Global, buffer: Buf) -> Result<String, AllocError>
+    ensures { IfOk result (λ name. string_bytes name ≡ buffer_name buffer) }
+{
+    match buffer {
+        Buf::Input(number) => format!(in alloc; "a{number}"),
+        Buf::Output(number) => format!(in alloc; "b{number}"),
+        Buf::Scratch(number) => format!(in alloc; "s{number}"),
     }
 }
 
@@ -90,38 +104,55 @@ impl Writer {
         self.put(b")")
     }
 
-    /// What stands before tests, and the tests.
-    fn put_condition(&mut self, before: &[u8], tests: &[Test]) -> Result<(), PrintFault>
-        ensures { OnOk result (self.new ≡ self.old ++ (before.now ++ tests_text tests.now)) }
-    {
-        self.put(before)?;
-        self.put_tests(tests)
-    }
-
+    /// Two operands with a sign between them, in parentheses where the place needs them.
+    #[tactic(auto, using(crate::proofs::Places::place_laws))]
     #[cycle(word)]
-    fn put_left_word(&mut self, before: &[u8], word: &Wexp, place: Level) -> Result<(), PrintFault>
-        ensures { OnOk result (self.new ≡ self.old ++ (before.now ++ word_fold word.now place)) }
-    {
-        self.put(before)?;
-        self.put_word_operand(word, place)
-    }
-
-    #[cycle(word)]
-    fn put_right_word(
+    fn put_word_pair(
         &mut self,
-        sign: &[u8],
-        word: &Wexp,
+        own: Level,
         place: Level,
-        after: &[u8],
+        left: &Wexp,
+        sign: &[u8],
+        right: &Wexp,
+        tighter: Level,
     ) -> Result<(), PrintFault>
-        ensures { OnOk result (self.new ≡ self.old ++ (sign.now ++ word_fold word.now place ++ after.now)) }
+        ensures { OnOk result (self.new ≡ self.old ++ in_place own place (word_fold left.now own ++ sign.now ++ word_fold right.now tighter)) }
     {
+        self.put(own.opening(place))?;
+        self.put_word_operand(left, own)?;
         self.put(sign)?;
-        self.put_word_operand(word, place)?;
-        self.put(after)
+        self.put_word_operand(right, tighter)?;
+        self.put(own.closing(place))
+    }
+
+    /// Both sides of a choice, behind its tests.
+    #[cycle(word)]
+    fn put_sides(&mut self, first: &Wexp, second: &Wexp) -> Result<(), PrintFault>
+        ensures { OnOk result (self.new ≡ self.old ++ (codes " ? " ++ word_fold first.now Level.Choice ++ codes " : " ++ word_fold second.now Level.Choice)) }
+    {
+        self.put(b" ? ")?;
+        self.put_word_operand(first, Level::Choice)?;
+        self.put(b" : ")?;
+        self.put_word_operand(second, Level::Choice)
     }
 
     #[tactic(auto, using(crate::proofs::Places::place_laws))]
+    #[cycle(word)]
+    fn put_choice(
+        &mut self,
+        place: Level,
+        tests: &[Test],
+        first: &Wexp,
+        second: &Wexp,
+    ) -> Result<(), PrintFault>
+        ensures { OnOk result (self.new ≡ self.old ++ in_place Level.Choice place (tests_text tests.now ++ codes " ? " ++ word_fold first.now Level.Choice ++ codes " : " ++ word_fold second.now Level.Choice)) }
+    {
+        self.put(Level::Choice.opening(place))?;
+        self.put_tests(tests)?;
+        self.put_sides(first, second)?;
+        self.put(Level::Choice.closing(place))
+    }
+
     #[cycle(word)]
     fn put_word_operand(&mut self, word: &Wexp, place: Level) -> Result<(), PrintFault>
         ensures { OnOk result (self.new ≡ self.old ++ word_fold word.now place) }
@@ -131,21 +162,16 @@ impl Writer {
             Wexp::Load(buffer, index) => self.put_element(*buffer, index),
             Wexp::OfIndex(index) => self.put_converted(index),
             Wexp::Add(a, b) => {
-                self.put_left_word(Level::Sum.opening(place), a.get(), Level::Sum)?;
-                self.put_right_word(b" + ", b.get(), Level::Product, Level::Sum.closing(place))
+                self.put_word_pair(Level::Sum, place, a.get(), b" + ", b.get(), Level::Product)
             }
             Wexp::Sub(a, b) => {
-                self.put_left_word(Level::Sum.opening(place), a.get(), Level::Sum)?;
-                self.put_right_word(b" - ", b.get(), Level::Product, Level::Sum.closing(place))
+                self.put_word_pair(Level::Sum, place, a.get(), b" - ", b.get(), Level::Product)
             }
             Wexp::Mul(a, b) => {
-                self.put_left_word(Level::Product.opening(place), a.get(), Level::Product)?;
-                self.put_right_word(b" * ", b.get(), Level::Part, Level::Product.closing(place))
+                self.put_word_pair(Level::Product, place, a.get(), b" * ", b.get(), Level::Part)
             }
             Wexp::Choose(tests, a, b) => {
-                self.put_condition(Level::Choice.opening(place), tests.as_slice())?;
-                self.put_right_word(b" ? ", a.get(), Level::Choice, b" : ")?;
-                self.put_right_word(b"", b.get(), Level::Choice, Level::Choice.closing(place))
+                self.put_choice(place, tests.as_slice(), a.get(), b.get())
             }
         }
     }
