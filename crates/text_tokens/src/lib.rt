@@ -8,6 +8,3 @@ mod lex;
 pub use cursor::Tokens;
 pub use kind::{Kind, Language, same_kind};
 pub use lex::number;
-
-#[cfg(test)]
-mod tests;

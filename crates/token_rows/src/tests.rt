@@ -1,4 +1,4 @@
-use crate::{Kind, Language, Tokens, number, same_kind};
+use text_tokens::{Kind, Language, Tokens, number, same_kind};
 
 /// Whether the text has these words: their kinds, texts and places.
 fn has_words(language: Language, text: &str, words: &[(Kind, &str, u64)]) -> bool {
