@@ -9,7 +9,8 @@ use Rattle.affine_index.specs.declared.cond.Cond.{Cond}
 use Rattle.affine_index.specs.declared.form.Items.{Items}
 use Rattle.term_tree.specs.declared.term.Term.{Term}
 use Rattle.term_tree.specs.declared.term.Term.TheVariants.{Index, Gen, Sum, Guard, Let, Add, Sub, Mul, Concat, Flatten, Split, Transpose, TruncL, TruncR, PadL, PadR}
-use Rattle.term_tree.specs.Shape.{CoefficientTooLarge, Extents, IndexTooLong, RankMismatch, RankTooLarge, ShapesDiffer, Shaped, each_fits, each_short, here, largest_rank, limited, of_concat, of_equal, of_first, of_two, of_words, same_forms, shape_of, tiles, with_child}
+use Rattle.term_tree.specs.Shape.{Extents, Shaped, each_fits, each_short, here, largest_rank, limited, of_concat, of_equal, of_first, of_two, of_words, same_forms, shape_of, tiles, with_child}
+use Rattle.term_tree.specs.declared.cause.Cause.TheVariants.{CoefficientTooLarge, IndexTooLong, RankMismatch, RankTooLarge, ShapesDiffer}
 use Rattle.term_tree.specs.Syntax.{index, gen, sum, guard, let_in, add, sub, mul, concat, flatten, split, transpose, trunc_l, trunc_r, pad_l, pad_r}
 use Rattle.term_tree.proofs.Forms.{Index-is, Gen-is, Sum-is, Guard-is, Let-is, Add-is, Sub-is, Mul-is, Concat-is, Flatten-is, Split-is, Transpose-is, TruncL-is, TruncR-is, PadL-is, PadR-is}
 use Rattle.atl_meaning.specs.Forms.{chunked_forms, concatenated_forms, each_within, flattened_forms, lengthened_forms, shortened_forms}

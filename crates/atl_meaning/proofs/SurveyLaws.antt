@@ -9,7 +9,8 @@ use Rattle.affine_index.specs.declared.form.Items.{Items}
 use Rattle.term_tree.specs.declared.term.Term.{Term, Lit, TVar, WordOf}
 use Rattle.term_tree.specs.Syntax.{index, gen, sum, guard, let_in, add, sub, mul, concat, flatten, split, transpose, trunc_l, trunc_r, pad_l, pad_r}
 use Rattle.term_tree.specs.Goals.{extents_or_none}
-use Rattle.term_tree.specs.Shape.{CoefficientTooLarge, Extents, IndexTooLong, RankMismatch, RankTooLarge, ShapesDiffer, Shaped, each_fits, each_short, here, largest_rank, limited, of_concat, of_equal, of_first, of_two, of_words, same_forms, shape_of, tiles, with_child}
+use Rattle.term_tree.specs.Shape.{Extents, Shaped, each_fits, each_short, here, largest_rank, limited, of_concat, of_equal, of_first, of_two, of_words, same_forms, shape_of, tiles, with_child}
+use Rattle.term_tree.specs.declared.cause.Cause.TheVariants.{CoefficientTooLarge, IndexTooLong, RankMismatch, RankTooLarge, ShapesDiffer}
 use Rattle.atl_meaning.specs.Forms.{chunked_forms, concatenated_forms, flattened_forms, lengthened_forms, shortened_forms, transposed_forms}
 use Rattle.atl_meaning.specs.Lists.{rest_of}
 use Rattle.atl_meaning.specs.Surveyed.{Survey, surveyed, surveyed_step}

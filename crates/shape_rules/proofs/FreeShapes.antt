@@ -70,7 +70,7 @@ shape_free (TVar q) ts h g = limited_free (get_or ts q []) (variable_free ts q g
 shape_free (WordOf x) ts h g = refl
 shape_free (index e x) ts h g = child_free 0 (shape_of e ts) _ (shape_free e ts (sym (fold-index Bool plain_step e x) ∙ h) g) (λ ns a. first_free ns _ a (λ n rest p q. q))
 shape_free (gen n e) ts h g = let p = and_parts (not (holds_var n)) (is_plain e) (sym (fold-gen Bool plain_step n e) ∙ h) in child_free 0 (shape_of e ts) _ (shape_free e ts p.1 g) (λ ns a. limited_free (n ∷ ns) (put_first n ns p.0 a))
-shape_free (sum n e) ts h g = child_free 0 (shape_of e ts) _ (shape_free e ts (sym (fold-sum Bool plain_step n e) ∙ h) g) (λ ns a. a)
+shape_free (sum n e) ts h g = let p = and_parts (not (holds_var n)) (is_plain e) (sym (fold-sum Bool plain_step n e) ∙ h) in child_free 0 (shape_of e ts) _ (shape_free e ts p.1 g) (λ ns a. a)
 shape_free (guard c e) ts h g = child_free 0 (shape_of e ts) _ (shape_free e ts (sym (fold-guard Bool plain_step c e) ∙ h) g) (λ ns a. a)
 shape_free (let_in a b) ts h g = let p = and_parts (is_plain a) (is_plain b) (sym (fold-let_in Bool plain_step a b) ∙ h) in child_free 0 (shape_of a ts) _ (shape_free a ts p.0 g) (λ ns c. child_free 1 (shape_of b (ns ∷ ts)) _ (shape_free b (ns ∷ ts) p.1 (and_from (each_free ns) (all_free ts) c g)) (λ ms d. d))
 shape_free (add a b) ts h g = let p = and_parts (is_plain a) (is_plain b) (sym (fold-add Bool plain_step a b) ∙ h) in child_free 0 (shape_of a ts) _ (shape_free a ts p.0 g) (λ ns c. child_free 1 (shape_of b ts) _ (shape_free b ts p.1 g) (λ ms d. equal_free ns ms c))

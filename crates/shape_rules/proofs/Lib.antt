@@ -16,4 +16,3 @@ pub mod TileLaws
 pub mod ShapeMeaning
 pub mod WalkedForms
 pub mod WalkedLaws
-mod TestLaws

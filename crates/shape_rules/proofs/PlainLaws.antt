@@ -17,7 +17,7 @@ module _ (s : ℕ) where
   plain_scoped (WordOf x) v t h = fold-word_of Bool plain_step x
   plain_scoped (index e x) v t h = fold-index Bool plain_step e x ∙ plain_scoped e v t (and_parts (term_scoped s e v t) (items_scoped s v x) h).0
   plain_scoped (gen n e) v t h = fold-gen Bool plain_step n e ∙ (let p = and_parts (items_scoped s 0 n) (term_scoped s e (v + 1) t) h in and_from (not (holds_var n)) (is_plain e) (scoped_free s n p.0) (plain_scoped e (v + 1) t p.1))
-  plain_scoped (sum n e) v t h = fold-sum Bool plain_step n e ∙ plain_scoped e (v + 1) t (and_parts (items_scoped s 0 n) (term_scoped s e (v + 1) t) h).1
+  plain_scoped (sum n e) v t h = fold-sum Bool plain_step n e ∙ (let p = and_parts (items_scoped s 0 n) (term_scoped s e (v + 1) t) h in and_from (not (holds_var n)) (is_plain e) (scoped_free s n p.0) (plain_scoped e (v + 1) t p.1))
   plain_scoped (guard c e) v t h = fold-guard Bool plain_step c e ∙ plain_scoped e v t (and_parts (cond_scoped s v c) (term_scoped s e v t) h).1
   plain_scoped (let_in a b) v t h = fold-let_in Bool plain_step a b ∙ (let p = and_parts (term_scoped s a v t) (term_scoped s b v (t + 1)) h in and_from (is_plain a) (is_plain b) (plain_scoped a v t p.0) (plain_scoped b v (t + 1) p.1))
   plain_scoped (add a b) v t h = fold-add Bool plain_step a b ∙ (let p = and_parts (term_scoped s a v t) (term_scoped s b v t) h in and_from (is_plain a) (is_plain b) (plain_scoped a v t p.0) (plain_scoped b v t p.1))

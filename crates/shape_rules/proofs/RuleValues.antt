@@ -12,15 +12,16 @@ use Rattle.affine_index.proofs.SumValue.{sum_of-value}
 use Rattle.affine_index.proofs.Values.{value-difference, value-literal, value-product, value-quotient}
 use Rattle.term_tree.specs.Meaning.{count_of, extent, head_of, tail_of}
 use Rattle.term_tree.specs.Goals.{rest_after}
-use Rattle.term_tree.specs.Shape.{Extents, Shaped, Wrong, each_fits, each_short, here, largest_rank, limited, of_concat, of_equal, of_words, same_forms, tiles}
+use Rattle.term_tree.specs.declared.cause.Cause.{Cause}
+use Rattle.term_tree.specs.Shape.{Extents, Shaped, each_fits, each_short, here, largest_rank, limited, of_concat, of_equal, of_words, same_forms, tiles}
 use Rattle.shape_rules.specs.Fits.{HasFirst, HasTwo}
 use Rattle.shape_rules.specs.Rules.{columns_shape, fewer_shape, flat_shape, more_shape, row_shape, rows_shape, same_shape, tiled_shape}
 use Rattle.shape_rules.specs.Values.{AllHaveValues, HaveValues, NoneNegative}
 use Rattle.shape_rules.proofs.SameLaws.{same_forms-equal}
 
-otherwise : (b : Bool) (wrong : Wrong) (x : Shaped) (ms : Extents) → (if b then here wrong else x) ≡ Ok ms → x ≡ Ok ms
-otherwise true wrong x ms h = absurd (cc)
-otherwise false wrong x ms h = h
+otherwise : (b : Bool) (cause : Cause) (x : Shaped) (ms : Extents) → (if b then here cause else x) ≡ Ok ms → x ≡ Ok ms
+otherwise true cause x ms h = absurd (cc)
+otherwise false cause x ms h = h
 
 inside : (ns ms : Extents) → same_shape ns ≡ Ok ms → ns ≡ ms
 inside ns ms h = cc
@@ -152,9 +153,9 @@ module _ (s : List ℕ) where
   same_of true ns ms e h = same_forms-equal ns ms e
   same_of false ns ms e h = absurd (cc)
 
-  refused : (b : Bool) (wrong : Wrong) (x : Shaped) (ms : Extents) → (if b then here wrong else x) ≡ Ok ms → b ≡ false
-  refused true wrong x ms h = absurd (cc)
-  refused false wrong x ms h = refl
+  refused : (b : Bool) (cause : Cause) (x : Shaped) (ms : Extents) → (if b then here cause else x) ≡ Ok ms → b ≡ false
+  refused true cause x ms h = absurd (cc)
+  refused false cause x ms h = refl
 
   pub equal_values : (ns ks : Extents) (d e : List ℕ) (ms : Extents) → HaveValues s ns d → HaveValues s ks e → of_equal ns ks ≡ Ok ms → HaveValues s ms d × (e ≡ d)
   equal_values ns ks d e ms h k f =

@@ -5,10 +5,9 @@ use Rattle.term_tree.specs.declared.term.Module.{Module}
 use Rattle.term_tree.specs.declared.term.OutputDecl.{OutputDecl}
 use Rattle.term_tree.specs.declared.term.Path.{Path}
 use Rattle.term_tree.specs.Modules.{input_shapes}
-use Rattle.term_tree.specs.Shape.{Extents, Misfit, Shaped, Wrong, largest_rank, shape_of, with_child}
-use Rattle.term_tree.specs.Shape as s
-use Rattle.shape_rules.specs.declared.fault.Cause.{Cause}
-use Rattle.shape_rules.specs.declared.fault.Cause.TheVariants as c
+use Rattle.term_tree.specs.Shape.{Extents, Misfit, Shaped, largest_rank, shape_of, with_child}
+use Rattle.term_tree.specs.declared.cause.Cause.{Cause}
+use Rattle.term_tree.specs.declared.cause.Cause.TheVariants as c
 use Rattle.shape_rules.specs.declared.fault.Trouble.{Trouble}
 use Rattle.shape_rules.specs.declared.fault.Trouble.TheVariants as t
 use Rattle.shape_rules.specs.declared.fault.ShapeFault.{ShapeFault}
@@ -16,17 +15,17 @@ use Rattle.shape_rules.specs.declared.fault.ShapeFault.TheVariants as f
 use Rattle.shape_rules.specs.declared.fault.Operands.{Operands}
 
 -- the misfit at a path, whatever its output
-abbrev pub misfit_at : Path → Wrong → Shaped
-misfit_at path wrong = Err (record { steps = path.steps; wrong = wrong })
+abbrev pub misfit_at : Path → Cause → Shaped
+misfit_at path cause = Err (record { steps = path.steps; cause = cause })
 
 -- the fault tells the misfit, in this output; want of memory tells nothing
 abbrev pub IsFault : ℕ → Shaped → ShapeFault → Type 0
 IsFault output shape (f.InputRank i) = ⊥
-IsFault output shape (f.RankMismatch p) = (p.output ≡ output) × (shape ≡ misfit_at p s.RankMismatch)
-IsFault output shape (f.ShapesDiffer p) = (p.output ≡ output) × (shape ≡ misfit_at p s.ShapesDiffer)
-IsFault output shape (f.RankTooLarge p) = (p.output ≡ output) × (shape ≡ misfit_at p s.RankTooLarge)
-IsFault output shape (f.CoefficientTooLarge p) = (p.output ≡ output) × (shape ≡ misfit_at p s.CoefficientTooLarge)
-IsFault output shape (f.IndexTooLong p) = (p.output ≡ output) × (shape ≡ misfit_at p s.IndexTooLong)
+IsFault output shape (f.RankMismatch p) = (p.output ≡ output) × (shape ≡ misfit_at p c.RankMismatch)
+IsFault output shape (f.ShapesDiffer p) = (p.output ≡ output) × (shape ≡ misfit_at p c.ShapesDiffer)
+IsFault output shape (f.RankTooLarge p) = (p.output ≡ output) × (shape ≡ misfit_at p c.RankTooLarge)
+IsFault output shape (f.CoefficientTooLarge p) = (p.output ≡ output) × (shape ≡ misfit_at p c.CoefficientTooLarge)
+IsFault output shape (f.IndexTooLong p) = (p.output ≡ output) × (shape ≡ misfit_at p c.IndexTooLong)
 IsFault output shape f.Memory = Unit {0}
 
 -- the shape rules hold in the module: no input has a rank over 8, and each output has a shape
@@ -61,17 +60,9 @@ IsModuleFault m (f.InputRank i) = IsHigh m.inputs i
 IsModuleFault m f.Memory = Unit {0}
 IsModuleFault m fault = All RankFits m.inputs × FailsFirst (input_shapes m) m.outputs fault
 
--- what a cause says of a node
-abbrev pub wrong_of : Cause → Wrong
-wrong_of c.RankMismatch = s.RankMismatch
-wrong_of c.ShapesDiffer = s.ShapesDiffer
-wrong_of c.RankTooLarge = s.RankTooLarge
-wrong_of c.CoefficientTooLarge = s.CoefficientTooLarge
-wrong_of c.IndexTooLong = s.IndexTooLong
-
 -- a misfit whose steps are told from its node upward
 abbrev pub upward : Cause → List ℕ → Misfit
-upward cause steps = record { steps = reverse steps; wrong = wrong_of cause }
+upward cause steps = record { steps = reverse steps; cause = cause }
 
 -- the trouble tells the misfit
 abbrev pub IsTrouble : Shaped → Trouble → Type 0

@@ -1,13 +1,13 @@
 //! Why a term has no shape.
 
 ghost use Rattle.std.specs.Prelude.{◌≡◌, [], reverse, IfErr, IfOk, Ok};
-ghost use Rattle.shape_rules.specs.Faults.{IsAnswer, IsFault, IsTrouble, misfit_at, wrong_of};
+ghost use Rattle.shape_rules.specs.Faults.{IsAnswer, IsFault, IsTrouble, misfit_at};
 ghost use Rattle.term_tree.specs.Shape.{Extents, Shaped, with_child};
 
 use affine_index::Aff;
 use sqlite_items::Items;
 use std::alloc::{AllocError, Global};
-use term_tree::Path;
+use term_tree::{Cause, Path};
 
 /// The first input of a rank over 8; the first node, children before their parent and in order, at which a shape rule
 /// fails, an extent breaks a limit or the rank is over 8; or want of memory.
@@ -32,16 +32,6 @@ impl From<AllocError> for ShapeFault {
     fn from(_e: AllocError) -> ShapeFault {
         ShapeFault::Memory
     }
-}
-
-/// What is wrong at a node.
-#[derive(Debug, Drop, Clone, Copy, PartialEq, Eq)]
-pub enum Cause {
-    RankMismatch,
-    ShapesDiffer,
-    RankTooLarge,
-    CoefficientTooLarge,
-    IndexTooLong,
 }
 
 /// Why a walk ends: the cause, with the numbers of the children from its node upward, or want of memory.
@@ -104,7 +94,7 @@ fn reversed(alloc: Global, numbers: Items<u32>) -> Result<Items<u32>, AllocError
 }
 
 fn at(cause: Cause, path: Path) -> ShapeFault
-    ensures { IsFault path.output (misfit_at path (wrong_of cause)) result }
+    ensures { IsFault path.output (misfit_at path cause) result }
 {
     match cause {
         Cause::RankMismatch => ShapeFault::RankMismatch(path),

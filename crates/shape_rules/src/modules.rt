@@ -10,8 +10,9 @@ ghost use Rattle.term_tree.specs.Goals.{term_goals};
 ghost use Rattle.term_tree.specs.Modules as m;
 ghost use Rattle.term_tree.specs.Shape.{shape_of};
 
+use crate::extents::copies;
 use crate::fault::{ShapeFault, fault};
-use crate::rules::{LARGEST_RANK, copies};
+use crate::rules::LARGEST_RANK;
 use crate::shapes::Shapes;
 use crate::walk::{Progress, walk};
 use affine_index::Aff;
@@ -37,10 +38,7 @@ fn input_shapes(alloc: Global, inputs: &[InputDecl]) -> Result<Items<Items<Aff>>
 {
     let mut shapes = Items::new(alloc);
     for input in inputs {
-        match copies(alloc, input.extents.as_slice()) {
-            Ok(extents) => shapes.push(extents)?,
-            Err(_) => return Err(ShapeFault::Memory),
-        }
+        shapes.push(copies(alloc, input.extents.as_slice())?)?;
     }
     Ok(shapes)
 }
@@ -51,10 +49,7 @@ fn input_goals(alloc: Global, inputs: &[InputDecl]) -> Result<Items<Aff>, ShapeF
 {
     let mut goals = Items::new(alloc);
     for input in inputs {
-        match copies(alloc, input.extents.as_slice()) {
-            Ok(extents) => goals.append(extents)?,
-            Err(_) => return Err(ShapeFault::Memory),
-        }
+        goals.append(copies(alloc, input.extents.as_slice())?)?;
     }
     Ok(goals)
 }

@@ -1,42 +1,22 @@
 //! The shape rule of each operator, on the shapes of its operands.
 
-ghost use Rattle.std.specs.Prelude.{◌≡◌, ◌↔◌, ◌<◌, ◌≤◌, pos, [], ◌∷◌, true, IfOk, IsOk, IsTrue, MatchOption, MatchResult, OnOk};
+ghost use Rattle.std.specs.Prelude.{◌≡◌, ◌↔◌, ◌<◌, ◌≤◌, pos, [], ◌∷◌, true, IfOk, IsOk, IsTrue, MatchResult, OnOk};
 ghost use Rattle.affine_index.specs.Form.{literal_form};
 ghost use Rattle.affine_index.specs.Normal.{Refused};
 ghost use Rattle.shape_rules.specs.Faults.{AreAnswered, IsAnswer};
 ghost use Rattle.shape_rules.specs.Rules.{columns_shape, fewer_shape, flat_shape, more_shape, row_shape, rows_shape, same_shape, tiled_shape};
 ghost use Rattle.shape_rules.specs.Scopes.{each_free};
-ghost use Rattle.term_tree.specs.Shape.{Extents, Shaped, each_fits, each_short, limited, of_concat, of_equal, of_words, same_forms, tiles, with_child};
+ghost use Rattle.term_tree.specs.Shape.{Extents, Shaped, each_fits, each_short, limited, of_concat, of_equal, of_words, same_forms, with_child};
 
-use crate::fault::{Cause, Operands, Trouble, here, under};
-use affine_index::raw::{copied, quotient, sum, within_limits};
+use crate::extents::{in_front, take_first, tiles};
+use crate::fault::{Operands, Trouble, here, under};
 use affine_index::{Aff, AffRefusal};
 use sqlite_items::Items;
-use std::alloc::{AllocError, Global};
+use std::alloc::Global;
+use term_tree::Cause;
 
 /// The largest rank.
 pub const LARGEST_RANK: usize = 8;
-
-/// An equal form.
-pub fn copy(alloc: Global, form: &Aff) -> Result<Aff, Trouble>
-    ensures { MatchResult result (λ copy. copy ≡ form.now) (λ t. t ≡ Trouble.Memory) }
-{
-    match form.copy(alloc) {
-        Ok(copy) => Ok(copy),
-        Err(_) => Err(Trouble::Memory),
-    }
-}
-
-/// Equal extents.
-pub fn copies(alloc: Global, extents: &[Aff]) -> Result<Items<Aff>, Trouble>
-    ensures { MatchResult result (λ copies. copies ≡ extents.now) (λ t. t ≡ Trouble.Memory) }
-{
-    let mut copies = Items::new(alloc);
-    for form in extents {
-        copies.push(copy(alloc, form)?)?;
-    }
-    Ok(copies)
-}
 
 /// Tells a proof that each extent is within the limits.
 fn told(extents: &[Aff])
@@ -46,27 +26,6 @@ fn told(extents: &[Aff])
     for form in extents {
         form.told();
     }
-}
-
-/// Takes the first extent, where there is one.
-fn take_first(extents: &mut Items<Aff>) -> Option<Aff>
-    ensures { MatchOption result ((extents.old ≡ []) × (extents.new ≡ [])) (λ n. extents.old ≡ n ∷ extents.new) }
-{
-    if extents.is_empty() {
-        None
-    } else {
-        Some(extents.remove(0))
-    }
-}
-
-/// An extent in front of others.
-fn in_front(alloc: Global, first: Aff, rest: Items<Aff>) -> Result<Items<Aff>, AllocError>
-    ensures { IfOk result (λ ns. ns ≡ first ∷ rest) }
-{
-    let mut extents = Items::new(alloc);
-    extents.push(first)?;
-    extents.append(rest)?;
-    Ok(extents)
 }
 
 /// A shape whose rank is within the limit.
@@ -173,20 +132,7 @@ pub fn flat(alloc: Global, child: Result<Items<Aff>, Trouble>) -> Result<Items<A
     with_first(alloc, n.mul(alloc, &m), rest)
 }
 
-/// How many chunks of k hold n rows. The forms on the way have no limits.
-fn tiles(alloc: Global, k: u32, n: &Aff) -> Result<Aff, AffRefusal>
-    requires positive { 0 < k }
-    requires limit { k ≤ 2147483647 }
-    ensures { MatchResult result (λ form. form ≡ tiles k n.now) (Refused (tiles k n.now)) }
-{
-    let more = Aff::literal(alloc, i64::from(k - 1))?;
-    let a = copied(alloc, n)?;
-    let b = copied(alloc, &more)?;
-    let total = sum(alloc, a, b)?;
-    let chunks = quotient(alloc, total, k)?;
-    within_limits(alloc, chunks)
-}
-
+/// A number as a form.
 fn literal(alloc: Global, k: u32) -> Result<Aff, Trouble>
     requires { k ≤ 2147483647 }
     ensures { MatchResult result (λ form. form ≡ literal_form (pos k)) (λ t. t ≡ Trouble.Memory) }

@@ -9,10 +9,10 @@ ghost use Rattle.shape_rules.specs.Walked.{cut_goals, walked};
 ghost use Rattle.term_tree.specs.Goals.{extents_or_none};
 ghost use Rattle.term_tree.specs.Shape.{Extents, Shaped, limited, with_child};
 
+use crate::extents::{copies, copy};
 use crate::fault::{Operands, Trouble, under};
 use crate::rules::{
-    columns, copies, copy, equal, fewer, flat, followed, limited, more, row, rows, same, tiled,
-    words,
+    columns, equal, fewer, flat, followed, limited, more, row, rows, same, tiled, words,
 };
 use crate::shapes::Shapes;
 use affine_index::Aff;

@@ -3,3 +3,4 @@ pub mod FormLaws
 pub mod Forms
 pub mod NodeFold
 mod Rows
+pub mod TensorLaws

@@ -23,7 +23,9 @@ use Rattle.term_tree.specs.Syntax.{index, gen, sum, guard, let_in, add, sub, mul
 use Rattle.term_tree.specs.Tensors.{Tensor, Word, End, from_rows}
 use Rattle.term_tree.specs.Meaning.{Bound, dims, den}
 use Rattle.term_tree.specs.Shaped.{flat, word_count, HasShape}
-use Rattle.term_tree.specs.Shape.{Extents, Shaped, Wrong, RankMismatch, ShapesDiffer, RankTooLarge, CoefficientTooLarge, IndexTooLong, shape_of}
+use Rattle.term_tree.specs.Shape.{Extents, Shaped, shape_of}
+use Rattle.term_tree.specs.declared.cause.Cause.{Cause}
+use Rattle.term_tree.specs.declared.cause.Cause.TheVariants.{RankMismatch, ShapesDiffer, RankTooLarge, CoefficientTooLarge, IndexTooLong}
 use Rattle.term_tree.specs.Counts.{node_count, node_depth}
 use Rattle.term_tree.specs.Goals.{term_goals}
 use Rattle.term_tree.specs.Scope.{term_scoped}
@@ -216,8 +218,8 @@ let_extents = refl
 abbrev vector : List Extents
 vector = (size_form 0 ∷ []) ∷ []
 
-abbrev at_path : List ℕ → Wrong → Shaped
-at_path steps wrong = Err (record { steps = steps; wrong = wrong })
+abbrev at_path : List ℕ → Cause → Shaped
+at_path steps cause = Err (record { steps = steps; cause = cause })
 
 abbrev eight : Extents
 eight = literal_form (pos 1) ∷ literal_form (pos 1) ∷ literal_form (pos 1) ∷ literal_form (pos 1) ∷ literal_form (pos 1) ∷ literal_form (pos 1) ∷ literal_form (pos 1) ∷ literal_form (pos 1) ∷ []

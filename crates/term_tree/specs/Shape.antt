@@ -8,21 +8,15 @@ use Rattle.affine_index.specs.Product.{product_of}
 use Rattle.affine_index.specs.Quotient.{quotient_of}
 use Rattle.affine_index.specs.Normal.{coefficients_fit, is_short}
 use Rattle.affine_index.specs.Order.{items_order}
+use Rattle.term_tree.specs.declared.cause.Cause.{Cause}
+use Rattle.term_tree.specs.declared.cause.Cause.TheVariants.{RankMismatch, ShapesDiffer, RankTooLarge, CoefficientTooLarge, IndexTooLong}
 use Rattle.term_tree.specs.declared.term.Term.{Term, Lit, TVar, WordOf}
 use Rattle.term_tree.specs.Syntax.{index, gen, sum, guard, let_in, add, sub, mul, concat, flatten, split, transpose, trunc_l, trunc_r, pad_l, pad_r}
-
--- what a shape rule finds wrong at a node, in the order in which a node is tested
-pub data Wrong : Type 0 where
-  RankMismatch : Wrong
-  ShapesDiffer : Wrong
-  RankTooLarge : Wrong
-  CoefficientTooLarge : Wrong
-  IndexTooLong : Wrong
 
 -- the node, by the numbers of the children that lead to it, and what is wrong there
 pub record Misfit : Type 0 where
   pub steps : List ℕ
-  pub wrong : Wrong
+  pub cause : Cause
 
 abbrev pub Extents : Type 0
 Extents = List Items
@@ -30,8 +24,8 @@ Extents = List Items
 abbrev pub Shaped : Type 0
 Shaped = Result Extents Misfit
 
-abbrev pub here : Wrong → Shaped
-here wrong = Err (record { steps = []; wrong = wrong })
+abbrev pub here : Cause → Shaped
+here cause = Err (record { steps = []; cause = cause })
 
 abbrev pub largest_rank : ℕ
 largest_rank = 8

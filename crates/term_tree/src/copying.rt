@@ -5,6 +5,7 @@ ghost use Rattle.std.specs.Prelude.{◌≡◌, IfOk, MatchResult};
 use crate::refusal::TreeRefusal;
 use crate::term::Term;
 use affine_index::{Aff, Cmp, Cond};
+use owned_values::two;
 use sqlite_items::{Boxed, Items};
 use std::alloc::Global;
 
@@ -62,27 +63,60 @@ fn copied(alloc: Global, term: &Term) -> Result<Term, TreeRefusal>
         Term::Lit(word) => Term::Lit(*word),
         Term::TVar(var) => Term::TVar(*var),
         Term::WordOf(x) => Term::WordOf(form(alloc, x)?),
-        Term::Index(child, x) => Term::Index(boxed(alloc, child.get())?, form(alloc, x)?),
         Term::Flatten(child) => Term::Flatten(boxed(alloc, child.get())?),
         Term::Transpose(child) => Term::Transpose(boxed(alloc, child.get())?),
         Term::Split(k, child) => Term::Split(*k, boxed(alloc, child.get())?),
-        Term::Guard(cond, child) => Term::Guard(
-            copy_cond(alloc, cond)?,
-            boxed(alloc, child.get())?,
-        ),
-        Term::Gen(x, child) => Term::Gen(form(alloc, x)?, boxed(alloc, child.get())?),
-        Term::Sum(x, child) => Term::Sum(form(alloc, x)?, boxed(alloc, child.get())?),
-        Term::TruncL(x, child) => Term::TruncL(form(alloc, x)?, boxed(alloc, child.get())?),
-        Term::TruncR(x, child) => Term::TruncR(form(alloc, x)?, boxed(alloc, child.get())?),
-        Term::PadL(x, child) => Term::PadL(form(alloc, x)?, boxed(alloc, child.get())?),
-        Term::PadR(x, child) => Term::PadR(form(alloc, x)?, boxed(alloc, child.get())?),
-        Term::Let(left, right) => Term::Let(boxed(alloc, left.get())?, boxed(alloc, right.get())?),
-        Term::Add(left, right) => Term::Add(boxed(alloc, left.get())?, boxed(alloc, right.get())?),
-        Term::Sub(left, right) => Term::Sub(boxed(alloc, left.get())?, boxed(alloc, right.get())?),
-        Term::Mul(left, right) => Term::Mul(boxed(alloc, left.get())?, boxed(alloc, right.get())?),
-        Term::Concat(left, right) => Term::Concat(
-            boxed(alloc, left.get())?,
-            boxed(alloc, right.get())?,
-        ),
+        Term::Index(child, x) => {
+            let (x, child) = two(form(alloc, x), boxed(alloc, child.get()))?;
+            Term::Index(child, x)
+        }
+        Term::Gen(x, child) => {
+            let (x, child) = two(form(alloc, x), boxed(alloc, child.get()))?;
+            Term::Gen(x, child)
+        }
+        Term::Sum(x, child) => {
+            let (x, child) = two(form(alloc, x), boxed(alloc, child.get()))?;
+            Term::Sum(x, child)
+        }
+        Term::TruncL(x, child) => {
+            let (x, child) = two(form(alloc, x), boxed(alloc, child.get()))?;
+            Term::TruncL(x, child)
+        }
+        Term::TruncR(x, child) => {
+            let (x, child) = two(form(alloc, x), boxed(alloc, child.get()))?;
+            Term::TruncR(x, child)
+        }
+        Term::PadL(x, child) => {
+            let (x, child) = two(form(alloc, x), boxed(alloc, child.get()))?;
+            Term::PadL(x, child)
+        }
+        Term::PadR(x, child) => {
+            let (x, child) = two(form(alloc, x), boxed(alloc, child.get()))?;
+            Term::PadR(x, child)
+        }
+        Term::Guard(cond, child) => {
+            let (cond, child) = two(copy_cond(alloc, cond), boxed(alloc, child.get()))?;
+            Term::Guard(cond, child)
+        }
+        Term::Let(left, right) => {
+            let (left, right) = two(boxed(alloc, left.get()), boxed(alloc, right.get()))?;
+            Term::Let(left, right)
+        }
+        Term::Add(left, right) => {
+            let (left, right) = two(boxed(alloc, left.get()), boxed(alloc, right.get()))?;
+            Term::Add(left, right)
+        }
+        Term::Sub(left, right) => {
+            let (left, right) = two(boxed(alloc, left.get()), boxed(alloc, right.get()))?;
+            Term::Sub(left, right)
+        }
+        Term::Mul(left, right) => {
+            let (left, right) = two(boxed(alloc, left.get()), boxed(alloc, right.get()))?;
+            Term::Mul(left, right)
+        }
+        Term::Concat(left, right) => {
+            let (left, right) = two(boxed(alloc, left.get()), boxed(alloc, right.get()))?;
+            Term::Concat(left, right)
+        }
     })
 }

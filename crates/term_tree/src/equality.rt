@@ -35,27 +35,82 @@ fn same_cond(a: &Cond, b: &Cond) -> bool
 pub fn same(a: &Term, b: &Term) -> bool
     ensures { IsTrue result ↔ (a.now ≡ b.now) }
 {
-    match (a, b) {
-        (Term::Lit(v), Term::Lit(w)) => *v == *w,
-        (Term::TVar(v), Term::TVar(w)) => *v == *w,
-        (Term::WordOf(x), Term::WordOf(y)) => x.same(y),
-        (Term::Index(d, x), Term::Index(e, y)) => x.same(y) && same(d.get(), e.get()),
-        (Term::Flatten(d), Term::Flatten(e)) => same(d.get(), e.get()),
-        (Term::Transpose(d), Term::Transpose(e)) => same(d.get(), e.get()),
-        (Term::Split(k, d), Term::Split(l, e)) => *k == *l && same(d.get(), e.get()),
-        (Term::Guard(x, d), Term::Guard(y, e)) => same_cond(x, y) && same(d.get(), e.get()),
-        (Term::Gen(x, d), Term::Gen(y, e)) => x.same(y) && same(d.get(), e.get()),
-        (Term::Sum(x, d), Term::Sum(y, e)) => x.same(y) && same(d.get(), e.get()),
-        (Term::TruncL(x, d), Term::TruncL(y, e)) => x.same(y) && same(d.get(), e.get()),
-        (Term::TruncR(x, d), Term::TruncR(y, e)) => x.same(y) && same(d.get(), e.get()),
-        (Term::PadL(x, d), Term::PadL(y, e)) => x.same(y) && same(d.get(), e.get()),
-        (Term::PadR(x, d), Term::PadR(y, e)) => x.same(y) && same(d.get(), e.get()),
-        (Term::Let(c, d), Term::Let(e, f)) => same(c.get(), e.get()) && same(d.get(), f.get()),
-        (Term::Add(c, d), Term::Add(e, f)) => same(c.get(), e.get()) && same(d.get(), f.get()),
-        (Term::Sub(c, d), Term::Sub(e, f)) => same(c.get(), e.get()) && same(d.get(), f.get()),
-        (Term::Mul(c, d), Term::Mul(e, f)) => same(c.get(), e.get()) && same(d.get(), f.get()),
-        (Term::Concat(c, d), Term::Concat(e, f)) => same(c.get(), e.get())
-            && same(d.get(), f.get()),
-        _ => false,
+    match a {
+        Term::Lit(v) => match b {
+            Term::Lit(w) => *v == *w,
+            _ => false,
+        },
+        Term::TVar(v) => match b {
+            Term::TVar(w) => *v == *w,
+            _ => false,
+        },
+        Term::WordOf(x) => match b {
+            Term::WordOf(y) => x.same(y),
+            _ => false,
+        },
+        Term::Index(d, x) => match b {
+            Term::Index(e, y) => x.same(y) && same(d.get(), e.get()),
+            _ => false,
+        },
+        Term::Flatten(d) => match b {
+            Term::Flatten(e) => same(d.get(), e.get()),
+            _ => false,
+        },
+        Term::Transpose(d) => match b {
+            Term::Transpose(e) => same(d.get(), e.get()),
+            _ => false,
+        },
+        Term::Split(k, d) => match b {
+            Term::Split(l, e) => *k == *l && same(d.get(), e.get()),
+            _ => false,
+        },
+        Term::Guard(x, d) => match b {
+            Term::Guard(y, e) => same_cond(x, y) && same(d.get(), e.get()),
+            _ => false,
+        },
+        Term::Gen(x, d) => match b {
+            Term::Gen(y, e) => x.same(y) && same(d.get(), e.get()),
+            _ => false,
+        },
+        Term::Sum(x, d) => match b {
+            Term::Sum(y, e) => x.same(y) && same(d.get(), e.get()),
+            _ => false,
+        },
+        Term::TruncL(x, d) => match b {
+            Term::TruncL(y, e) => x.same(y) && same(d.get(), e.get()),
+            _ => false,
+        },
+        Term::TruncR(x, d) => match b {
+            Term::TruncR(y, e) => x.same(y) && same(d.get(), e.get()),
+            _ => false,
+        },
+        Term::PadL(x, d) => match b {
+            Term::PadL(y, e) => x.same(y) && same(d.get(), e.get()),
+            _ => false,
+        },
+        Term::PadR(x, d) => match b {
+            Term::PadR(y, e) => x.same(y) && same(d.get(), e.get()),
+            _ => false,
+        },
+        Term::Let(c, d) => match b {
+            Term::Let(e, f) => same(c.get(), e.get()) && same(d.get(), f.get()),
+            _ => false,
+        },
+        Term::Add(c, d) => match b {
+            Term::Add(e, f) => same(c.get(), e.get()) && same(d.get(), f.get()),
+            _ => false,
+        },
+        Term::Sub(c, d) => match b {
+            Term::Sub(e, f) => same(c.get(), e.get()) && same(d.get(), f.get()),
+            _ => false,
+        },
+        Term::Mul(c, d) => match b {
+            Term::Mul(e, f) => same(c.get(), e.get()) && same(d.get(), f.get()),
+            _ => false,
+        },
+        Term::Concat(c, d) => match b {
+            Term::Concat(e, f) => same(c.get(), e.get()) && same(d.get(), f.get()),
+            _ => false,
+        },
     }
 }

@@ -1,6 +1,7 @@
 //! Terms of the tensor language, modules, and what they mean.
 #![tactic(auto)]
 
+mod cause;
 mod copying;
 mod count;
 mod depths;
@@ -12,6 +13,7 @@ mod refusal;
 mod term;
 mod walk;
 
+pub use cause::Cause;
 pub use copying::copy;
 pub use count::{depth, nodes};
 pub use depths::Depths;
@@ -22,6 +24,3 @@ pub use normality::told;
 pub use refusal::TreeRefusal;
 pub use term::{InputDecl, Module, OutputDecl, Path, SizeDecl, Term};
 pub use walk::fold;
-
-#[cfg(test)]
-mod tests;

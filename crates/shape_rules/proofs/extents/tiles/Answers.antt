@@ -2,7 +2,7 @@ use Rattle.std.proofs.Common.{◌∙◌}
 use Rattle.affine_index.specs.Sum.{sum_of}
 use Rattle.affine_index.proofs.ArithmeticLaws.{sum-room}
 use Rattle.shape_rules.proofs.TileLaws.{tiles-ordered, tiles-room}
-use Rattle.shape_rules.proofs.rules.tiles.Goals as goal
+use Rattle.shape_rules.proofs.extents.tiles.Goals as goal
 
 pub sum-requires : goal.sum-requires
 sum-requires c =

@@ -1,5 +1,5 @@
 use Rattle.std.proofs.Common.{◌≡◌, take}
-use Rattle.shape_rules.proofs.rules.copies.Given as goal
+use Rattle.shape_rules.proofs.extents.copies.Given as goal
 
 abbrev pub invariant-loop-form : goal.invariant-loop-form
 invariant-loop-form l = l.copies ≡ take l.form-index l.extents

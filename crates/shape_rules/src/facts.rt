@@ -1,0 +1,59 @@
+//! The facts of a module.
+
+ghost use Rattle.std.specs.Prelude.{◌≡◌, map, IfOk};
+ghost use Rattle.shape_rules.specs.Admitted.{module_facts};
+
+use crate::extents::copy;
+use affine_index::Cmp;
+use fact_list::{Facts, SizeBounds};
+use sqlite_items::Items;
+use std::alloc::{AllocError, Global};
+use term_tree::{Module, SizeDecl};
+
+/// The bounds of each declared size, in order.
+fn bounds(alloc: Global, declared: &[SizeDecl]) -> Result<Items<SizeBounds>, AllocError>
+    ensures { IfOk result (λ bounds. bounds ≡ map (λ d. record { low = d.low; high = d.high }) declared.now) }
+{
+    let mut bounds = Items::new(alloc);
+    for size in declared {
+        bounds.push(SizeBounds {
+            low: size.low,
+            high: size.high,
+        })?;
+    }
+    Ok(bounds)
+}
+
+/// An equal comparison.
+fn copied(alloc: Global, cmp: &Cmp) -> Result<Cmp, AllocError>
+    ensures { IfOk result (λ copy. copy ≡ cmp.now) }
+{
+    match cmp {
+        Cmp::Ge(x) => Ok(Cmp::Ge(copy(alloc, x)?)),
+        Cmp::Eq(x) => Ok(Cmp::Eq(copy(alloc, x)?)),
+    }
+}
+
+/// Equal comparisons.
+fn assumed(alloc: Global, cmps: &[Cmp]) -> Result<Items<Cmp>, AllocError>
+    ensures { IfOk result (λ copies. copies ≡ cmps.now) }
+{
+    let mut copies = Items::new(alloc);
+    for cmp in cmps {
+        copies.push(copied(alloc, cmp)?)?;
+    }
+    Ok(copies)
+}
+
+/// The declared bounds and the assumes, which hold outside all gens, sums and guards.
+pub fn module_facts(alloc: Global, module: &Module) -> Result<Facts, AllocError>
+    ensures { IfOk result (λ facts. facts ≡ module_facts «module».now) }
+{
+    let sizes = bounds(alloc, module.sizes.as_slice())?;
+    let assumes = assumed(alloc, module.assumes.as_slice())?;
+    Ok(Facts {
+        sizes,
+        assumes,
+        path: Items::new(alloc),
+    })
+}
