@@ -50,6 +50,24 @@ pub fn gens_of(alloc: Global, outer: Items<Aff>, term: &Term) -> Result<Items<Af
     }
 }
 
+/// The place of a word in an output.
+fn place_tree(alloc: Global, extents: &[Aff], loops: u32) -> Result<Iexp, LowerFault>
+    ensures { IfOk result (λ t. t ≡ index_tree loops (row_place extents.now (outer_variables loops loops))) }
+{
+    let indices = variables(alloc, loops)?;
+    let place = row_place(alloc, extents, indices.as_slice())?;
+    index_tree(alloc, loops, &place)
+}
+
+/// One statement.
+fn one(alloc: Global, statement: Stmt) -> Result<Items<Stmt>, LowerFault>
+    ensures { IfOk result (λ b. b ≡ statement ∷ []) }
+{
+    let mut all = Items::new(alloc);
+    all.push(statement)?;
+    Ok(all)
+}
+
 /// One word, put at its place in an output.
 fn leaf(
     alloc: Global,
@@ -60,12 +78,8 @@ fn leaf(
 ) -> Result<Items<Stmt>, LowerFault>
     ensures { IfOk result (λ b. b ≡ Stmt.Put (Buf.Output number) (index_tree loops (row_place extents.now (outer_variables loops loops))) word ∷ []) }
 {
-    let indices = variables(alloc, loops)?;
-    let place = row_place(alloc, extents, indices.as_slice())?;
-    let tree = index_tree(alloc, loops, &place)?;
-    let mut all = Items::new(alloc);
-    all.push(Stmt::Put(Buf::Output(number), tree, word))?;
-    Ok(all)
+    let tree = place_tree(alloc, extents, loops)?;
+    one(alloc, Stmt::Put(Buf::Output(number), tree, word))
 }
 
 /// A loop around statements.
