@@ -121,6 +121,15 @@ tensor_cause m r i j q NotAffine h = is_refusal-some NotAffine (r.at_tensor i j 
 tensor_cause m r i j q (TooManyNodes n) h = is_refusal-some (TooManyNodes n) (r.at_tensor i j q) h
 tensor_cause m r i j q Memory h = refl
 
+-- a refusal at an index variable
+pub index_cause : (m : Replacement) (r : Refusals) (i j v : ℕ) (e : MapRefusal) → IsAnswer (m.for_index i j v) (r.at_index i j v) (Err e)
+    → (is_memory e || is_refusal e (r.at_index i j v)) ≡ true
+index_cause m r i j v CoefficientTooLarge h = is_refusal-some CoefficientTooLarge (r.at_index i j v) h
+index_cause m r i j v IndexTooLong h = is_refusal-some IndexTooLong (r.at_index i j v) h
+index_cause m r i j v NotAffine h = is_refusal-some NotAffine (r.at_index i j v) h
+index_cause m r i j v (TooManyNodes n) h = is_refusal-some (TooManyNodes n) (r.at_index i j v) h
+index_cause m r i j v Memory h = refl
+
 -- a comparison with what is put for its variables, from its form
 module _ (m : Replacement) (i j : ℕ) (c : Cmp) (x : Items) (o : Option Items) (k : MapRefusal → Bool) (h : IsForm (put_at m i j x) k (Ok o)) where
   abbrev AnswersCmp : Option Cmp → Type 0

@@ -66,12 +66,12 @@ module _ (p : ℕ → ℕ → Items → Bool) (q : ℕ → ℕ → ℕ → Bool)
   place-PadR : (n : Aff) (e : Term) (i j : ℕ) → place (PadR n e) i j ≡ place e i j
   place-PadR n e i j = ap (λ z. place z i j) (PadR-is n e) ∙ place_fold-is p q (pad_r n e) i j ∙ sym (place_fold-is p q e i j)
 
-first : (m a b : Bool) → (m || a) ≡ true → (m || (a || b)) ≡ true
+pub first : (m a b : Bool) → (m || a) ≡ true → (m || (a || b)) ≡ true
 first true a b h = refl
 first false true b h = refl
 first false false b h = absurd (cc)
 
-second : (m a b : Bool) → (m || b) ≡ true → (m || (a || b)) ≡ true
+pub second : (m a b : Bool) → (m || b) ≡ true → (m || (a || b)) ≡ true
 second true a b h = refl
 second false true b h = refl
 second false false b h = h

@@ -6,8 +6,10 @@ pub mod CondLaws
 pub mod CountingLaws
 pub mod Environments
 pub mod HasLaws
+pub mod LoneLaws
 pub mod MapFold
 pub mod NormalLaws
+pub mod PartLaws
 pub mod PlaceFold
 pub mod PlainLaws
 pub mod ReachLaws

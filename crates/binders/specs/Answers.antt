@@ -43,11 +43,6 @@ IsAnswer replacement refusal (Ok x) = (x ≡ replacement) × (refusal ≡ None)
 IsAnswer replacement refusal (Err Memory) = Unit {0}
 IsAnswer replacement refusal (Err e) = refusal ≡ Some e
 
--- no refusal but want of memory
-abbrev pub OnlyMemory : {A : Type 0} → Result A MapRefusal → Type 0
-OnlyMemory (Ok x) = Unit {0}
-OnlyMemory (Err e) = e ≡ Memory
-
 -- whether two refusals are the same
 abbrev pub same_refusal : MapRefusal → MapRefusal → Bool
 same_refusal CoefficientTooLarge CoefficientTooLarge = true
@@ -181,6 +176,15 @@ abbrev pub IsPart : {A : Type 0} → (raw : A) → (fits short : Bool) → (caus
 IsPart raw fits short causes (Ok (Some e)) = (e ≡ raw) × (fits ≡ true) × (short ≡ true)
 IsPart raw fits short causes (Ok None) = (fits ≡ true) × (short ≡ false)
 IsPart raw fits short causes (Err e) = (is_memory e || causes e) ≡ true
+
+-- both parts of a node, where both are short; the first refusal else
+abbrev pub parts_of : {A B : Type 0} → Result (Option A) MapRefusal → Result (Option B) MapRefusal → Result (Option (A × B)) MapRefusal
+parts_of (Ok (Some a)) (Ok (Some b)) = Ok (Some (a, b))
+parts_of (Ok (Some a)) (Ok None) = Ok None
+parts_of (Ok (Some a)) (Err e) = Err e
+parts_of (Ok None) (Ok b) = Ok None
+parts_of (Ok None) (Err e) = Err e
+parts_of (Err e) b = Err e
 
 -- the same of a form, a comparison, a condition and a term
 abbrev pub IsForm : Items → (MapRefusal → Bool) → Result (Option Items) MapRefusal → Type 0

@@ -11,6 +11,7 @@ use crate::hollow::Hollow;
 use crate::mapping::part;
 use crate::refusal::MapRefusal;
 use crate::var_map::VarMap;
+use owned_values::spent;
 use std::alloc::Global;
 use term_tree::{Depths, Term, told};
 
@@ -31,7 +32,10 @@ fn over<M: VarMap>(alloc: Global, map: &M, term: &Term, nodes: u64) -> Result<Te
     };
     let hollow = Hollow { map };
     match part(alloc, &hollow, outside, term) {
-        Ok(Some(_)) => Err(MapRefusal::TooManyNodes { nodes }),
+        Ok(Some(spare)) => {
+            spent(spare);
+            Err(MapRefusal::TooManyNodes { nodes })
+        }
         Ok(None) => Err(MapRefusal::IndexTooLong),
         Err(refusal) => Err(refusal),
     }
@@ -81,7 +85,8 @@ fn whole<M: VarMap>(alloc: Global, map: &M, term: &Term) -> Result<Term, MapRefu
 /// The term with the replacement of each free variable. The map numbers a replacement as under the binders around
 /// the variable. Asks the map once for each index variable of each form, and twice for each tensor variable, since the
 /// nodes are counted before the term is made: beside the result, or the nodes of the term where they are too many, one
-/// replacement is kept at a time. Copies what stays, and in each form looks for every number up to its largest variable.
+/// replacement is kept at a time. Copies what stays. A form that is a variable alone is what is put for it; in any other
+/// form every number up to its largest variable is looked for.
 pub fn map_term<M: VarMap>(alloc: Global, map: &M, term: &Term) -> Result<Term, MapRefusal>
     requires deep { node_depth term.now ≤ 2147483647 }
     requires within { IsWithinReach (M.reach map.now) term.now }

@@ -1,9 +1,8 @@
 //! Terms with the replacement of each variable.
 
-ghost use Rattle.std.specs.Prelude.{◌≡◌, ◌+◌, ◌^◌, ◌<◌, IfOk, true, false, not};
-ghost use Rattle.affine_index.specs.Normal.{is_normal};
+ghost use Rattle.std.specs.Prelude.{◌≡◌, ◌+◌, ◌^◌, ◌<◌, true, false, not};
 ghost use Rattle.term_tree.specs.Counts.{depth_fold};
-ghost use Rattle.binders.specs.Answers.{IsPartOf, OnlyMemory, form_beyond, part_causes, place_fold, tensor_refused};
+ghost use Rattle.binders.specs.Answers.{IsForm, IsPartOf, form_beyond, part_causes, parts_of, place_fold, tensor_refused};
 ghost use Rattle.binders.specs.Maps.{map_fold};
 
 use crate::refusal::MapRefusal;
@@ -14,15 +13,35 @@ use sqlite_items::Boxed;
 use std::alloc::Global;
 use term_tree::{Depths, Term, told};
 
-fn copy(alloc: Global, form: &Aff) -> Result<Aff, MapRefusal>
-    ensures copy { IfOk result (λ copy. copy ≡ form.now) }
-    ensures memory { OnlyMemory result }
-    ensures normal { is_normal form.now ≡ true }
+/// A copy, which is as short as its form.
+fn copy(alloc: Global, form: &Aff) -> Result<Option<Aff>, MapRefusal>
+    ensures { IsForm form.now (λ e. false) result }
 {
     form.told();
     match form.copy(alloc) {
-        Ok(copy) => Ok(copy),
+        Ok(copy) => Ok(Some(copy)),
         Err(_) => Err(MapRefusal::Memory),
+    }
+}
+
+/// Both parts of a node, where both are short.
+fn parts<A: Drop, B: Drop>(
+    first: Result<Option<A>, MapRefusal>,
+    second: Result<Option<B>, MapRefusal>,
+) -> Result<Option<(A, B)>, MapRefusal>
+    ensures { result ≡ parts_of first second }
+{
+    match first {
+        Ok(Some(first)) => match second {
+            Ok(Some(second)) => Ok(Some((first, second))),
+            Ok(None) => Ok(None),
+            Err(refusal) => Err(refusal),
+        },
+        Ok(None) => match second {
+            Ok(_) => Ok(None),
+            Err(refusal) => Err(refusal),
+        },
+        Err(refusal) => Err(refusal),
     }
 }
 
@@ -106,56 +125,62 @@ pub fn part<M: VarMap>(
             Some(x) => Ok(Some(Term::WordOf(x))),
             None => Ok(None),
         },
-        Term::Index(e, x) => match (
-            below(alloc, map, depths, e)?,
-            put_form(alloc, map, depths, x)?,
-        ) {
-            (Some(e), Some(x)) => Ok(Some(Term::Index(e, x))),
-            _ => Ok(None),
+        Term::Index(e, x) => match parts(
+            below(alloc, map, depths, e),
+            put_form(alloc, map, depths, x),
+        )? {
+            Some((e, x)) => Ok(Some(Term::Index(e, x))),
+            None => Ok(None),
         },
-        Term::Gen(n, e) => {
-            let n = copy(alloc, n)?;
-            match below(alloc, map, under_index(depths), e)? {
-                Some(e) => Ok(Some(Term::Gen(n, e))),
-                None => Ok(None),
-            }
-        }
-        Term::Sum(n, e) => {
-            let n = copy(alloc, n)?;
-            match below(alloc, map, under_index(depths), e)? {
-                Some(e) => Ok(Some(Term::Sum(n, e))),
-                None => Ok(None),
-            }
-        }
-        Term::Guard(c, e) => match (
-            put_cond(alloc, map, depths, c)?,
-            below(alloc, map, depths, e)?,
-        ) {
-            (Some(c), Some(e)) => Ok(Some(Term::Guard(c, e))),
-            _ => Ok(None),
+        Term::Gen(n, e) => match parts(copy(alloc, n), below(alloc, map, under_index(depths), e))? {
+            Some((n, e)) => Ok(Some(Term::Gen(n, e))),
+            None => Ok(None),
         },
-        Term::Let(a, b) => match (
-            below(alloc, map, depths, a)?,
-            below(alloc, map, under_tensor(depths), b)?,
-        ) {
-            (Some(a), Some(b)) => Ok(Some(Term::Let(a, b))),
-            _ => Ok(None),
+        Term::Sum(n, e) => match parts(copy(alloc, n), below(alloc, map, under_index(depths), e))? {
+            Some((n, e)) => Ok(Some(Term::Sum(n, e))),
+            None => Ok(None),
         },
-        Term::Add(a, b) => match (below(alloc, map, depths, a)?, below(alloc, map, depths, b)?) {
-            (Some(a), Some(b)) => Ok(Some(Term::Add(a, b))),
-            _ => Ok(None),
+        Term::Guard(c, e) => match parts(
+            put_cond(alloc, map, depths, c),
+            below(alloc, map, depths, e),
+        )? {
+            Some((c, e)) => Ok(Some(Term::Guard(c, e))),
+            None => Ok(None),
         },
-        Term::Sub(a, b) => match (below(alloc, map, depths, a)?, below(alloc, map, depths, b)?) {
-            (Some(a), Some(b)) => Ok(Some(Term::Sub(a, b))),
-            _ => Ok(None),
+        Term::Let(a, b) => match parts(
+            below(alloc, map, depths, a),
+            below(alloc, map, under_tensor(depths), b),
+        )? {
+            Some((a, b)) => Ok(Some(Term::Let(a, b))),
+            None => Ok(None),
         },
-        Term::Mul(a, b) => match (below(alloc, map, depths, a)?, below(alloc, map, depths, b)?) {
-            (Some(a), Some(b)) => Ok(Some(Term::Mul(a, b))),
-            _ => Ok(None),
+        Term::Add(a, b) => match parts(
+            below(alloc, map, depths, a),
+            below(alloc, map, depths, b),
+        )? {
+            Some((a, b)) => Ok(Some(Term::Add(a, b))),
+            None => Ok(None),
         },
-        Term::Concat(a, b) => match (below(alloc, map, depths, a)?, below(alloc, map, depths, b)?) {
-            (Some(a), Some(b)) => Ok(Some(Term::Concat(a, b))),
-            _ => Ok(None),
+        Term::Sub(a, b) => match parts(
+            below(alloc, map, depths, a),
+            below(alloc, map, depths, b),
+        )? {
+            Some((a, b)) => Ok(Some(Term::Sub(a, b))),
+            None => Ok(None),
+        },
+        Term::Mul(a, b) => match parts(
+            below(alloc, map, depths, a),
+            below(alloc, map, depths, b),
+        )? {
+            Some((a, b)) => Ok(Some(Term::Mul(a, b))),
+            None => Ok(None),
+        },
+        Term::Concat(a, b) => match parts(
+            below(alloc, map, depths, a),
+            below(alloc, map, depths, b),
+        )? {
+            Some((a, b)) => Ok(Some(Term::Concat(a, b))),
+            None => Ok(None),
         },
         Term::Flatten(e) => match below(alloc, map, depths, e)? {
             Some(e) => Ok(Some(Term::Flatten(e))),
@@ -169,33 +194,21 @@ pub fn part<M: VarMap>(
             Some(e) => Ok(Some(Term::Transpose(e))),
             None => Ok(None),
         },
-        Term::TruncL(n, e) => {
-            let n = copy(alloc, n)?;
-            match below(alloc, map, depths, e)? {
-                Some(e) => Ok(Some(Term::TruncL(n, e))),
-                None => Ok(None),
-            }
-        }
-        Term::TruncR(n, e) => {
-            let n = copy(alloc, n)?;
-            match below(alloc, map, depths, e)? {
-                Some(e) => Ok(Some(Term::TruncR(n, e))),
-                None => Ok(None),
-            }
-        }
-        Term::PadL(n, e) => {
-            let n = copy(alloc, n)?;
-            match below(alloc, map, depths, e)? {
-                Some(e) => Ok(Some(Term::PadL(n, e))),
-                None => Ok(None),
-            }
-        }
-        Term::PadR(n, e) => {
-            let n = copy(alloc, n)?;
-            match below(alloc, map, depths, e)? {
-                Some(e) => Ok(Some(Term::PadR(n, e))),
-                None => Ok(None),
-            }
-        }
+        Term::TruncL(n, e) => match parts(copy(alloc, n), below(alloc, map, depths, e))? {
+            Some((n, e)) => Ok(Some(Term::TruncL(n, e))),
+            None => Ok(None),
+        },
+        Term::TruncR(n, e) => match parts(copy(alloc, n), below(alloc, map, depths, e))? {
+            Some((n, e)) => Ok(Some(Term::TruncR(n, e))),
+            None => Ok(None),
+        },
+        Term::PadL(n, e) => match parts(copy(alloc, n), below(alloc, map, depths, e))? {
+            Some((n, e)) => Ok(Some(Term::PadL(n, e))),
+            None => Ok(None),
+        },
+        Term::PadR(n, e) => match parts(copy(alloc, n), below(alloc, map, depths, e))? {
+            Some((n, e)) => Ok(Some(Term::PadR(n, e))),
+            None => Ok(None),
+        },
     }
 }

@@ -1,9 +1,10 @@
 //! What is put for the variables of a form, all at once.
 
-ghost use Rattle.std.specs.Prelude.{◌≡◌, false, ℕ, true};
+ghost use Rattle.std.specs.Prelude.{◌≡◌, false, ℕ, true, IfSome};
 ghost use Rattle.affine_index.specs.Condition.{cmp_form};
+ghost use Rattle.affine_index.specs.Form.{var_form};
 ghost use Rattle.affine_index.specs.Put.{given, put_all};
-ghost use Rattle.binders.specs.Answers.{AreReplacements, IsCmp, IsCond, IsForm, breaks, form_beyond, form_causes};
+ghost use Rattle.binders.specs.Answers.{AreReplacements, IsCmp, IsCond, IsForm, breaks, form_beyond, form_causes, is_refusal};
 ghost use Rattle.binders.specs.Maps.{put_at, put_cmp, put_cond, put_cond_at};
 ghost use Rattle.binders.specs.Uses.{any_cmp};
 
@@ -11,7 +12,7 @@ use crate::bound::form_bound;
 use crate::occurrence::form_uses;
 use crate::refusal::MapRefusal;
 use crate::var_map::VarMap;
-use affine_index::{Aff, AffRefusal, Cmp, Cond, Items};
+use affine_index::{Aff, AffRefusal, Atom, Cmp, Cond, Items};
 use std::alloc::Global;
 use term_tree::Depths;
 
@@ -57,8 +58,39 @@ fn put_given(alloc: Global, by: &[Aff], form: &Aff) -> Result<Option<Aff>, MapRe
     }
 }
 
-/// The form with the replacement of each variable, or nothing where it is too long.
-pub fn put_form<M: VarMap>(
+/// The number of the variable that a form is, if it is one and nothing else.
+fn lone(form: &Items) -> Option<u32>
+    ensures { IfSome result (λ var. form.now ≡ var_form var) }
+{
+    match form.terms.as_slice() {
+        [term] => match &term.atom {
+            Atom::Var(var) if term.coefficient == 1 && form.constant == 0 => Some(*var),
+            _ => None,
+        },
+        _ => None,
+    }
+}
+
+/// What is put for a variable.
+fn put_lone<M: VarMap>(
+    alloc: Global,
+    map: &M,
+    depths: Depths,
+    var: u32,
+) -> Result<Option<Aff>, MapRefusal>
+    requires within { (M.reach map.now).has_index depths.index depths.tensor var ≡ true }
+    ensures { IsForm ((M.meaning map.now).for_index depths.index depths.tensor var) (λ e. is_refusal e ((M.refusals map.now).at_index depths.index depths.tensor var)) result }
+{
+    match map.index(alloc, depths, var) {
+        Ok(form) => {
+            form.told();
+            Ok(Some(form))
+        }
+        Err(refusal) => Err(refusal),
+    }
+}
+
+fn put_listed<M: VarMap>(
     alloc: Global,
     map: &M,
     depths: Depths,
@@ -70,6 +102,22 @@ pub fn put_form<M: VarMap>(
     match replacements(alloc, map, depths, form.items()) {
         Ok(by) => put_given(alloc, by.as_slice(), form),
         Err(refusal) => Err(refusal),
+    }
+}
+
+/// The form with the replacement of each variable, or nothing where it is too long.
+pub fn put_form<M: VarMap>(
+    alloc: Global,
+    map: &M,
+    depths: Depths,
+    form: &Aff,
+) -> Result<Option<Aff>, MapRefusal>
+    requires within { form_beyond (M.reach map.now) depths.index depths.tensor form.now ≡ false }
+    ensures { IsForm (put_at (M.meaning map.now) depths.index depths.tensor form.now) (λ e. form_causes (M.meaning map.now) (M.refusals map.now) e depths.index depths.tensor form.now) result }
+{
+    match lone(form.items()) {
+        Some(var) => put_lone(alloc, map, depths, var),
+        None => put_listed(alloc, map, depths, form),
     }
 }
 

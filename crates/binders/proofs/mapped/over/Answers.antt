@@ -19,7 +19,7 @@ part-requires g c =
 pub returns-in-Ok-Some : goal.returns-in-Ok-Some
 returns-in-Ok-Some g c =
     let w = c.in-Ok-Some in
-    hollow-too_many (g.M.VarMap.meaning c.args.map.now) (g.M.VarMap.refusals c.args.map.now) c.args.term.now c.args.nodes w.field-0 w.field-0-0
+    hollow-too_many (g.M.VarMap.meaning c.args.map.now) (g.M.VarMap.refusals c.args.map.now) c.args.term.now c.args.nodes w.field-0 w.spare
     w.field-0-is (w.ensures {u = tt}) c.requires.count c.requires.many
 
 pub returns-in-Ok-None : goal.returns-in-Ok-None
@@ -27,6 +27,6 @@ returns-in-Ok-None g c =
     let w = c.in-Ok-None in
     hollow-too_long (g.M.VarMap.meaning c.args.map.now) (g.M.VarMap.refusals c.args.map.now) c.args.term.now c.args.nodes w.field-0 w.field-0-is (w.ensures {u = tt})
 
-pub returns : goal.returns
-returns g c =
+pub returns-in-Err : goal.returns-in-Err
+returns-in-Err g c =
     hollow-refused (g.M.VarMap.meaning c.args.map.now) (g.M.VarMap.refusals c.args.map.now) c.args.term.now c.args.nodes c.in-Err.refusal (c.in-Err.ensures {u = tt})

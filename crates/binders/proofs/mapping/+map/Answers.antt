@@ -1,7 +1,9 @@
 -- A refusal of a part is handed on.
 use Rattle.std.proofs.Common.{sym}
 use Rattle.std.proofs.lemmas.Result.{err_from_is_err_and}
-use Rattle.binders.proofs.CauseLaws.{Cause, handed_on, of_same, of_Index, of_Gen, of_Sum, of_Guard, of_definition, of_body, of_first-Add, of_second-Add, of_first-Sub, of_second-Sub, of_first-Mul, of_second-Mul, of_first-Concat, of_second-Concat, of_Flatten, of_Split, of_Transpose, of_TruncL, of_TruncR, of_PadL, of_PadR}
+use Rattle.term_tree.specs.declared.term.Term.TheVariants.{Index, Gen, Sum, Guard, Let, Add, Sub, Mul, Concat, TruncL, TruncR, PadL, PadR}
+use Rattle.binders.proofs.CauseLaws.{Cause, handed_on, of_same, of_Flatten, of_Split, of_Transpose}
+use Rattle.binders.proofs.PartLaws.{part_handed_on, of-Index, of-Gen, of-Sum, of-Guard, of-Let, of-Add, of-Sub, of-Mul, of-Concat, of-TruncL, of-TruncR, of-PadL, of-PadR}
 use Rattle.binders.proofs.mapping.+map.Goals as goal
 
 pub below-returns-in_err-mapped : goal.below-returns-in_err-mapped
@@ -15,174 +17,6 @@ below-returns-in_err-mapped g t c =
     let h : Cause m r d c.get.result.now i j = c.in_err-mapped.ensures {u = tt} in
     handed_on m r d c.args.term.now i j c.from_residual.result p.0 p.1 p.2
     (of_same m r d c.args.term.now c.get.result.now i j (sym c.get.ensures) h)
-
-pub part-returns-in_err-below-in-Index : goal.part-returns-in_err-below-in-Index
-part-returns-in_err-below-in-Index g t c =
-    let m = g.M.VarMap.meaning c.args.map.now in
-    let r = g.M.VarMap.refusals c.args.map.now in
-    let i = c.args.depths.index in
-    let j = c.args.depths.tensor in
-    let d = c.in_err-below-in-Index.field-0.0 in
-    let p = err_from_is_err_and c.from_residual-in_err-below-in-Index.result c.from_residual-in_err-below-in-Index.ensures.1 in
-    let h : Cause m r d c.in-Index.e i j = c.in_err-below-in-Index.ensures {u = tt} in
-    handed_on m r d c.args.term.now i j c.from_residual-in_err-below-in-Index.result p.0 p.1 p.2
-    (of_Index m r d c.args.term.now c.in-Index.e c.in-Index.x i j c.in-Index.is h)
-
-pub part-returns-in_err-e-in-Gen : goal.part-returns-in_err-e-in-Gen
-part-returns-in_err-e-in-Gen g t c =
-    let m = g.M.VarMap.meaning c.args.map.now in
-    let r = g.M.VarMap.refusals c.args.map.now in
-    let i = c.args.depths.index in
-    let j = c.args.depths.tensor in
-    let d = c.in_err-e-in-Gen.field-0.0 in
-    let p = err_from_is_err_and c.from_residual-in_err-e-in-Gen.result c.from_residual-in_err-e-in-Gen.ensures.1 in
-    let h : Cause m r d c.in-Gen.e c.under_index.result.index c.under_index.result.tensor = c.in_err-e-in-Gen.ensures {u = tt} in
-    handed_on m r d c.args.term.now i j c.from_residual-in_err-e-in-Gen.result p.0 p.1 p.2
-    (of_Gen m r d c.args.term.now c.in-Gen.n c.in-Gen.e i j c.under_index.result.index c.under_index.result.tensor c.in-Gen.is c.under_index.ensures.index c.under_index.ensures.tensor h)
-
-pub part-returns-in_err-e-in-Sum : goal.part-returns-in_err-e-in-Sum
-part-returns-in_err-e-in-Sum g t c =
-    let m = g.M.VarMap.meaning c.args.map.now in
-    let r = g.M.VarMap.refusals c.args.map.now in
-    let i = c.args.depths.index in
-    let j = c.args.depths.tensor in
-    let d = c.in_err-e-in-Sum.field-0.0 in
-    let p = err_from_is_err_and c.from_residual-in_err-e-in-Sum.result c.from_residual-in_err-e-in-Sum.ensures.1 in
-    let h : Cause m r d c.in-Sum.e c.under_index-in-Sum.result.index c.under_index-in-Sum.result.tensor = c.in_err-e-in-Sum.ensures {u = tt} in
-    handed_on m r d c.args.term.now i j c.from_residual-in_err-e-in-Sum.result p.0 p.1 p.2
-    (of_Sum m r d c.args.term.now c.in-Sum.n c.in-Sum.e i j c.under_index-in-Sum.result.index c.under_index-in-Sum.result.tensor c.in-Sum.is c.under_index-in-Sum.ensures.index c.under_index-in-Sum.ensures.tensor h)
-
-pub part-returns-in_err-e-in-Guard : goal.part-returns-in_err-e-in-Guard
-part-returns-in_err-e-in-Guard g t c =
-    let m = g.M.VarMap.meaning c.args.map.now in
-    let r = g.M.VarMap.refusals c.args.map.now in
-    let i = c.args.depths.index in
-    let j = c.args.depths.tensor in
-    let d = c.in_err-e-in-Guard.field-0.0 in
-    let p = err_from_is_err_and c.from_residual-in_err-e-in-Guard.result c.from_residual-in_err-e-in-Guard.ensures.1 in
-    let h : Cause m r d c.in-Guard.e i j = c.in_err-e-in-Guard.ensures {u = tt} in
-    handed_on m r d c.args.term.now i j c.from_residual-in_err-e-in-Guard.result p.0 p.1 p.2
-    (of_Guard m r d c.args.term.now c.in-Guard.c c.in-Guard.e i j c.in-Guard.is h)
-
-pub part-returns-in_err-below-in-Let : goal.part-returns-in_err-below-in-Let
-part-returns-in_err-below-in-Let g t c =
-    let m = g.M.VarMap.meaning c.args.map.now in
-    let r = g.M.VarMap.refusals c.args.map.now in
-    let i = c.args.depths.index in
-    let j = c.args.depths.tensor in
-    let d = c.in_err-below-in-Let.field-0.0 in
-    let p = err_from_is_err_and c.from_residual-in_err-below-in-Let.result c.from_residual-in_err-below-in-Let.ensures.1 in
-    let h : Cause m r d c.in-Let.a i j = c.in_err-below-in-Let.ensures {u = tt} in
-    handed_on m r d c.args.term.now i j c.from_residual-in_err-below-in-Let.result p.0 p.1 p.2
-    (of_definition m r d c.args.term.now c.in-Let.a c.in-Let.b i j c.in-Let.is h)
-
-pub part-returns-in_err-b-in-Let : goal.part-returns-in_err-b-in-Let
-part-returns-in_err-b-in-Let g t c =
-    let m = g.M.VarMap.meaning c.args.map.now in
-    let r = g.M.VarMap.refusals c.args.map.now in
-    let i = c.args.depths.index in
-    let j = c.args.depths.tensor in
-    let d = c.in_err-b-in-Let.field-0.0 in
-    let p = err_from_is_err_and c.from_residual-in_err-b-in-Let.result c.from_residual-in_err-b-in-Let.ensures.1 in
-    let h : Cause m r d c.in-Let.b c.under_tensor.result.index c.under_tensor.result.tensor = c.in_err-b-in-Let.ensures {u = tt} in
-    handed_on m r d c.args.term.now i j c.from_residual-in_err-b-in-Let.result p.0 p.1 p.2
-    (of_body m r d c.args.term.now c.in-Let.a c.in-Let.b i j c.under_tensor.result.index c.under_tensor.result.tensor c.in-Let.is c.under_tensor.ensures.index c.under_tensor.ensures.tensor h)
-
-pub part-returns-in_err-below-in-Add : goal.part-returns-in_err-below-in-Add
-part-returns-in_err-below-in-Add g t c =
-    let m = g.M.VarMap.meaning c.args.map.now in
-    let r = g.M.VarMap.refusals c.args.map.now in
-    let i = c.args.depths.index in
-    let j = c.args.depths.tensor in
-    let d = c.in_err-below-in-Add.field-0.0 in
-    let p = err_from_is_err_and c.from_residual-in_err-below-in-Add.result c.from_residual-in_err-below-in-Add.ensures.1 in
-    let h : Cause m r d c.in-Add.a i j = c.in_err-below-in-Add.ensures {u = tt} in
-    handed_on m r d c.args.term.now i j c.from_residual-in_err-below-in-Add.result p.0 p.1 p.2
-    (of_first-Add m r d c.args.term.now c.in-Add.a c.in-Add.b i j c.in-Add.is h)
-
-pub part-returns-in_err-b-in-Add : goal.part-returns-in_err-b-in-Add
-part-returns-in_err-b-in-Add g t c =
-    let m = g.M.VarMap.meaning c.args.map.now in
-    let r = g.M.VarMap.refusals c.args.map.now in
-    let i = c.args.depths.index in
-    let j = c.args.depths.tensor in
-    let d = c.in_err-b-in-Add.field-0.0 in
-    let p = err_from_is_err_and c.from_residual-in_err-b-in-Add.result c.from_residual-in_err-b-in-Add.ensures.1 in
-    let h : Cause m r d c.in-Add.b i j = c.in_err-b-in-Add.ensures {u = tt} in
-    handed_on m r d c.args.term.now i j c.from_residual-in_err-b-in-Add.result p.0 p.1 p.2
-    (of_second-Add m r d c.args.term.now c.in-Add.a c.in-Add.b i j c.in-Add.is h)
-
-pub part-returns-in_err-below-in-Sub : goal.part-returns-in_err-below-in-Sub
-part-returns-in_err-below-in-Sub g t c =
-    let m = g.M.VarMap.meaning c.args.map.now in
-    let r = g.M.VarMap.refusals c.args.map.now in
-    let i = c.args.depths.index in
-    let j = c.args.depths.tensor in
-    let d = c.in_err-below-in-Sub.field-0.0 in
-    let p = err_from_is_err_and c.from_residual-in_err-below-in-Sub.result c.from_residual-in_err-below-in-Sub.ensures.1 in
-    let h : Cause m r d c.in-Sub.a i j = c.in_err-below-in-Sub.ensures {u = tt} in
-    handed_on m r d c.args.term.now i j c.from_residual-in_err-below-in-Sub.result p.0 p.1 p.2
-    (of_first-Sub m r d c.args.term.now c.in-Sub.a c.in-Sub.b i j c.in-Sub.is h)
-
-pub part-returns-in_err-b-in-Sub : goal.part-returns-in_err-b-in-Sub
-part-returns-in_err-b-in-Sub g t c =
-    let m = g.M.VarMap.meaning c.args.map.now in
-    let r = g.M.VarMap.refusals c.args.map.now in
-    let i = c.args.depths.index in
-    let j = c.args.depths.tensor in
-    let d = c.in_err-b-in-Sub.field-0.0 in
-    let p = err_from_is_err_and c.from_residual-in_err-b-in-Sub.result c.from_residual-in_err-b-in-Sub.ensures.1 in
-    let h : Cause m r d c.in-Sub.b i j = c.in_err-b-in-Sub.ensures {u = tt} in
-    handed_on m r d c.args.term.now i j c.from_residual-in_err-b-in-Sub.result p.0 p.1 p.2
-    (of_second-Sub m r d c.args.term.now c.in-Sub.a c.in-Sub.b i j c.in-Sub.is h)
-
-pub part-returns-in_err-below-in-Mul : goal.part-returns-in_err-below-in-Mul
-part-returns-in_err-below-in-Mul g t c =
-    let m = g.M.VarMap.meaning c.args.map.now in
-    let r = g.M.VarMap.refusals c.args.map.now in
-    let i = c.args.depths.index in
-    let j = c.args.depths.tensor in
-    let d = c.in_err-below-in-Mul.field-0.0 in
-    let p = err_from_is_err_and c.from_residual-in_err-below-in-Mul.result c.from_residual-in_err-below-in-Mul.ensures.1 in
-    let h : Cause m r d c.in-Mul.a i j = c.in_err-below-in-Mul.ensures {u = tt} in
-    handed_on m r d c.args.term.now i j c.from_residual-in_err-below-in-Mul.result p.0 p.1 p.2
-    (of_first-Mul m r d c.args.term.now c.in-Mul.a c.in-Mul.b i j c.in-Mul.is h)
-
-pub part-returns-in_err-b-in-Mul : goal.part-returns-in_err-b-in-Mul
-part-returns-in_err-b-in-Mul g t c =
-    let m = g.M.VarMap.meaning c.args.map.now in
-    let r = g.M.VarMap.refusals c.args.map.now in
-    let i = c.args.depths.index in
-    let j = c.args.depths.tensor in
-    let d = c.in_err-b-in-Mul.field-0.0 in
-    let p = err_from_is_err_and c.from_residual-in_err-b-in-Mul.result c.from_residual-in_err-b-in-Mul.ensures.1 in
-    let h : Cause m r d c.in-Mul.b i j = c.in_err-b-in-Mul.ensures {u = tt} in
-    handed_on m r d c.args.term.now i j c.from_residual-in_err-b-in-Mul.result p.0 p.1 p.2
-    (of_second-Mul m r d c.args.term.now c.in-Mul.a c.in-Mul.b i j c.in-Mul.is h)
-
-pub part-returns-in_err-below-in-Concat : goal.part-returns-in_err-below-in-Concat
-part-returns-in_err-below-in-Concat g t c =
-    let m = g.M.VarMap.meaning c.args.map.now in
-    let r = g.M.VarMap.refusals c.args.map.now in
-    let i = c.args.depths.index in
-    let j = c.args.depths.tensor in
-    let d = c.in_err-below-in-Concat.field-0.0 in
-    let p = err_from_is_err_and c.from_residual-in_err-below-in-Concat.result c.from_residual-in_err-below-in-Concat.ensures.1 in
-    let h : Cause m r d c.in-Concat.a i j = c.in_err-below-in-Concat.ensures {u = tt} in
-    handed_on m r d c.args.term.now i j c.from_residual-in_err-below-in-Concat.result p.0 p.1 p.2
-    (of_first-Concat m r d c.args.term.now c.in-Concat.a c.in-Concat.b i j c.in-Concat.is h)
-
-pub part-returns-in_err-b-in-Concat : goal.part-returns-in_err-b-in-Concat
-part-returns-in_err-b-in-Concat g t c =
-    let m = g.M.VarMap.meaning c.args.map.now in
-    let r = g.M.VarMap.refusals c.args.map.now in
-    let i = c.args.depths.index in
-    let j = c.args.depths.tensor in
-    let d = c.in_err-b-in-Concat.field-0.0 in
-    let p = err_from_is_err_and c.from_residual-in_err-b-in-Concat.result c.from_residual-in_err-b-in-Concat.ensures.1 in
-    let h : Cause m r d c.in-Concat.b i j = c.in_err-b-in-Concat.ensures {u = tt} in
-    handed_on m r d c.args.term.now i j c.from_residual-in_err-b-in-Concat.result p.0 p.1 p.2
-    (of_second-Concat m r d c.args.term.now c.in-Concat.a c.in-Concat.b i j c.in-Concat.is h)
 
 pub part-returns-in_err-e-in-Flatten : goal.part-returns-in_err-e-in-Flatten
 part-returns-in_err-e-in-Flatten g t c =
@@ -220,50 +54,161 @@ part-returns-in_err-e-in-Transpose g t c =
     handed_on m r d c.args.term.now i j c.from_residual-in_err-e-in-Transpose.result p.0 p.1 p.2
     (of_Transpose m r d c.args.term.now c.in-Transpose.e i j c.in-Transpose.is h)
 
-pub part-returns-in_err-e-in-TruncL : goal.part-returns-in_err-e-in-TruncL
-part-returns-in_err-e-in-TruncL g t c =
+pub part-returns-in_err-e-in-Index : goal.part-returns-in_err-e-in-Index
+part-returns-in_err-e-in-Index g t c =
     let m = g.M.VarMap.meaning c.args.map.now in
     let r = g.M.VarMap.refusals c.args.map.now in
     let i = c.args.depths.index in
     let j = c.args.depths.tensor in
-    let d = c.in_err-e-in-TruncL.field-0.0 in
-    let p = err_from_is_err_and c.from_residual-in_err-e-in-TruncL.result c.from_residual-in_err-e-in-TruncL.ensures.1 in
-    let h : Cause m r d c.in-TruncL.e i j = c.in_err-e-in-TruncL.ensures {u = tt} in
-    handed_on m r d c.args.term.now i j c.from_residual-in_err-e-in-TruncL.result p.0 p.1 p.2
-    (of_TruncL m r d c.args.term.now c.in-TruncL.n c.in-TruncL.e i j c.in-TruncL.is h)
+    let w = c.in-Index in
+    let p = err_from_is_err_and c.from_residual-in_err-e-in-Index.result c.from_residual-in_err-e-in-Index.ensures.1 in
+    part_handed_on m r c.args.term.now i j Index c.below.result c.put_form-in-Index.result c.parts.result c.in_err-e-in-Index.field-0.0
+    p.0 c.from_residual-in_err-e-in-Index.result c.parts.ensures c.in_err-e-in-Index.was p.2 p.1
+    (of-Index m r c.args.term.now i j w.e w.x c.below.result c.put_form-in-Index.result w.is c.below.ensures c.put_form-in-Index.ensures)
 
-pub part-returns-in_err-e-in-TruncR : goal.part-returns-in_err-e-in-TruncR
-part-returns-in_err-e-in-TruncR g t c =
+pub part-returns-in_err-n-in-Gen : goal.part-returns-in_err-n-in-Gen
+part-returns-in_err-n-in-Gen g t c =
     let m = g.M.VarMap.meaning c.args.map.now in
     let r = g.M.VarMap.refusals c.args.map.now in
     let i = c.args.depths.index in
     let j = c.args.depths.tensor in
-    let d = c.in_err-e-in-TruncR.field-0.0 in
-    let p = err_from_is_err_and c.from_residual-in_err-e-in-TruncR.result c.from_residual-in_err-e-in-TruncR.ensures.1 in
-    let h : Cause m r d c.in-TruncR.e i j = c.in_err-e-in-TruncR.ensures {u = tt} in
-    handed_on m r d c.args.term.now i j c.from_residual-in_err-e-in-TruncR.result p.0 p.1 p.2
-    (of_TruncR m r d c.args.term.now c.in-TruncR.n c.in-TruncR.e i j c.in-TruncR.is h)
+    let w = c.in-Gen in
+    let p = err_from_is_err_and c.from_residual-in_err-n-in-Gen.result c.from_residual-in_err-n-in-Gen.ensures.1 in
+    part_handed_on m r c.args.term.now i j Gen c.copy.result c.below-in-Gen.result c.parts-in-Gen.result c.in_err-n-in-Gen.field-0.0
+    p.0 c.from_residual-in_err-n-in-Gen.result c.parts-in-Gen.ensures c.in_err-n-in-Gen.was p.2 p.1
+    (of-Gen m r c.args.term.now i j w.n w.e c.under_index.result.index c.under_index.result.tensor
+    c.copy.result c.below-in-Gen.result w.is c.under_index.ensures.index c.under_index.ensures.tensor c.copy.ensures c.below-in-Gen.ensures)
 
-pub part-returns-in_err-e-in-PadL : goal.part-returns-in_err-e-in-PadL
-part-returns-in_err-e-in-PadL g t c =
+pub part-returns-in_err-n-in-Sum : goal.part-returns-in_err-n-in-Sum
+part-returns-in_err-n-in-Sum g t c =
     let m = g.M.VarMap.meaning c.args.map.now in
     let r = g.M.VarMap.refusals c.args.map.now in
     let i = c.args.depths.index in
     let j = c.args.depths.tensor in
-    let d = c.in_err-e-in-PadL.field-0.0 in
-    let p = err_from_is_err_and c.from_residual-in_err-e-in-PadL.result c.from_residual-in_err-e-in-PadL.ensures.1 in
-    let h : Cause m r d c.in-PadL.e i j = c.in_err-e-in-PadL.ensures {u = tt} in
-    handed_on m r d c.args.term.now i j c.from_residual-in_err-e-in-PadL.result p.0 p.1 p.2
-    (of_PadL m r d c.args.term.now c.in-PadL.n c.in-PadL.e i j c.in-PadL.is h)
+    let w = c.in-Sum in
+    let p = err_from_is_err_and c.from_residual-in_err-n-in-Sum.result c.from_residual-in_err-n-in-Sum.ensures.1 in
+    part_handed_on m r c.args.term.now i j Sum c.copy-in-Sum.result c.below-in-Sum.result c.parts-in-Sum.result c.in_err-n-in-Sum.field-0.0
+    p.0 c.from_residual-in_err-n-in-Sum.result c.parts-in-Sum.ensures c.in_err-n-in-Sum.was p.2 p.1
+    (of-Sum m r c.args.term.now i j w.n w.e c.under_index-in-Sum.result.index c.under_index-in-Sum.result.tensor
+    c.copy-in-Sum.result c.below-in-Sum.result w.is c.under_index-in-Sum.ensures.index c.under_index-in-Sum.ensures.tensor c.copy-in-Sum.ensures c.below-in-Sum.ensures)
 
-pub part-returns-in_err-e-in-PadR : goal.part-returns-in_err-e-in-PadR
-part-returns-in_err-e-in-PadR g t c =
+pub part-returns-in_err-c-in-Guard : goal.part-returns-in_err-c-in-Guard
+part-returns-in_err-c-in-Guard g t c =
     let m = g.M.VarMap.meaning c.args.map.now in
     let r = g.M.VarMap.refusals c.args.map.now in
     let i = c.args.depths.index in
     let j = c.args.depths.tensor in
-    let d = c.in_err-e-in-PadR.field-0.0 in
-    let p = err_from_is_err_and c.from_residual-in_err-e-in-PadR.result c.from_residual-in_err-e-in-PadR.ensures.1 in
-    let h : Cause m r d c.in-PadR.e i j = c.in_err-e-in-PadR.ensures {u = tt} in
-    handed_on m r d c.args.term.now i j c.from_residual-in_err-e-in-PadR.result p.0 p.1 p.2
-    (of_PadR m r d c.args.term.now c.in-PadR.n c.in-PadR.e i j c.in-PadR.is h)
+    let w = c.in-Guard in
+    let p = err_from_is_err_and c.from_residual-in_err-c-in-Guard.result c.from_residual-in_err-c-in-Guard.ensures.1 in
+    part_handed_on m r c.args.term.now i j Guard c.put_cond.result c.below-in-Guard.result c.parts-in-Guard.result c.in_err-c-in-Guard.field-0.0
+    p.0 c.from_residual-in_err-c-in-Guard.result c.parts-in-Guard.ensures c.in_err-c-in-Guard.was p.2 p.1
+    (of-Guard m r c.args.term.now i j w.c w.e c.put_cond.result c.below-in-Guard.result w.is c.put_cond.ensures c.below-in-Guard.ensures)
+
+pub part-returns-in_err-a-in-Let : goal.part-returns-in_err-a-in-Let
+part-returns-in_err-a-in-Let g t c =
+    let m = g.M.VarMap.meaning c.args.map.now in
+    let r = g.M.VarMap.refusals c.args.map.now in
+    let i = c.args.depths.index in
+    let j = c.args.depths.tensor in
+    let w = c.in-Let in
+    let p = err_from_is_err_and c.from_residual-in_err-a-in-Let.result c.from_residual-in_err-a-in-Let.ensures.1 in
+    part_handed_on m r c.args.term.now i j Let c.below-in-Let.result c.below-in-Let-2.result c.parts-in-Let.result c.in_err-a-in-Let.field-0.0
+    p.0 c.from_residual-in_err-a-in-Let.result c.parts-in-Let.ensures c.in_err-a-in-Let.was p.2 p.1
+    (of-Let m r c.args.term.now i j w.a w.b c.under_tensor.result.index c.under_tensor.result.tensor
+    c.below-in-Let.result c.below-in-Let-2.result w.is c.under_tensor.ensures.index c.under_tensor.ensures.tensor c.below-in-Let.ensures c.below-in-Let-2.ensures)
+
+pub part-returns-in_err-a-in-Add : goal.part-returns-in_err-a-in-Add
+part-returns-in_err-a-in-Add g t c =
+    let m = g.M.VarMap.meaning c.args.map.now in
+    let r = g.M.VarMap.refusals c.args.map.now in
+    let i = c.args.depths.index in
+    let j = c.args.depths.tensor in
+    let w = c.in-Add in
+    let p = err_from_is_err_and c.from_residual-in_err-a-in-Add.result c.from_residual-in_err-a-in-Add.ensures.1 in
+    part_handed_on m r c.args.term.now i j Add c.below-in-Add.result c.below-in-Add-2.result c.parts-in-Add.result c.in_err-a-in-Add.field-0.0
+    p.0 c.from_residual-in_err-a-in-Add.result c.parts-in-Add.ensures c.in_err-a-in-Add.was p.2 p.1
+    (of-Add m r c.args.term.now i j w.a w.b c.below-in-Add.result c.below-in-Add-2.result w.is c.below-in-Add.ensures c.below-in-Add-2.ensures)
+
+pub part-returns-in_err-a-in-Sub : goal.part-returns-in_err-a-in-Sub
+part-returns-in_err-a-in-Sub g t c =
+    let m = g.M.VarMap.meaning c.args.map.now in
+    let r = g.M.VarMap.refusals c.args.map.now in
+    let i = c.args.depths.index in
+    let j = c.args.depths.tensor in
+    let w = c.in-Sub in
+    let p = err_from_is_err_and c.from_residual-in_err-a-in-Sub.result c.from_residual-in_err-a-in-Sub.ensures.1 in
+    part_handed_on m r c.args.term.now i j Sub c.below-in-Sub.result c.below-in-Sub-2.result c.parts-in-Sub.result c.in_err-a-in-Sub.field-0.0
+    p.0 c.from_residual-in_err-a-in-Sub.result c.parts-in-Sub.ensures c.in_err-a-in-Sub.was p.2 p.1
+    (of-Sub m r c.args.term.now i j w.a w.b c.below-in-Sub.result c.below-in-Sub-2.result w.is c.below-in-Sub.ensures c.below-in-Sub-2.ensures)
+
+pub part-returns-in_err-a-in-Mul : goal.part-returns-in_err-a-in-Mul
+part-returns-in_err-a-in-Mul g t c =
+    let m = g.M.VarMap.meaning c.args.map.now in
+    let r = g.M.VarMap.refusals c.args.map.now in
+    let i = c.args.depths.index in
+    let j = c.args.depths.tensor in
+    let w = c.in-Mul in
+    let p = err_from_is_err_and c.from_residual-in_err-a-in-Mul.result c.from_residual-in_err-a-in-Mul.ensures.1 in
+    part_handed_on m r c.args.term.now i j Mul c.below-in-Mul.result c.below-in-Mul-2.result c.parts-in-Mul.result c.in_err-a-in-Mul.field-0.0
+    p.0 c.from_residual-in_err-a-in-Mul.result c.parts-in-Mul.ensures c.in_err-a-in-Mul.was p.2 p.1
+    (of-Mul m r c.args.term.now i j w.a w.b c.below-in-Mul.result c.below-in-Mul-2.result w.is c.below-in-Mul.ensures c.below-in-Mul-2.ensures)
+
+pub part-returns-in_err-a-in-Concat : goal.part-returns-in_err-a-in-Concat
+part-returns-in_err-a-in-Concat g t c =
+    let m = g.M.VarMap.meaning c.args.map.now in
+    let r = g.M.VarMap.refusals c.args.map.now in
+    let i = c.args.depths.index in
+    let j = c.args.depths.tensor in
+    let w = c.in-Concat in
+    let p = err_from_is_err_and c.from_residual-in_err-a-in-Concat.result c.from_residual-in_err-a-in-Concat.ensures.1 in
+    part_handed_on m r c.args.term.now i j Concat c.below-in-Concat.result c.below-in-Concat-2.result c.parts-in-Concat.result c.in_err-a-in-Concat.field-0.0
+    p.0 c.from_residual-in_err-a-in-Concat.result c.parts-in-Concat.ensures c.in_err-a-in-Concat.was p.2 p.1
+    (of-Concat m r c.args.term.now i j w.a w.b c.below-in-Concat.result c.below-in-Concat-2.result w.is c.below-in-Concat.ensures c.below-in-Concat-2.ensures)
+
+pub part-returns-in_err-n-in-TruncL : goal.part-returns-in_err-n-in-TruncL
+part-returns-in_err-n-in-TruncL g t c =
+    let m = g.M.VarMap.meaning c.args.map.now in
+    let r = g.M.VarMap.refusals c.args.map.now in
+    let i = c.args.depths.index in
+    let j = c.args.depths.tensor in
+    let w = c.in-TruncL in
+    let p = err_from_is_err_and c.from_residual-in_err-n-in-TruncL.result c.from_residual-in_err-n-in-TruncL.ensures.1 in
+    part_handed_on m r c.args.term.now i j TruncL c.copy-in-TruncL.result c.below-in-TruncL.result c.parts-in-TruncL.result c.in_err-n-in-TruncL.field-0.0
+    p.0 c.from_residual-in_err-n-in-TruncL.result c.parts-in-TruncL.ensures c.in_err-n-in-TruncL.was p.2 p.1
+    (of-TruncL m r c.args.term.now i j w.n w.e c.copy-in-TruncL.result c.below-in-TruncL.result w.is c.copy-in-TruncL.ensures c.below-in-TruncL.ensures)
+
+pub part-returns-in_err-n-in-TruncR : goal.part-returns-in_err-n-in-TruncR
+part-returns-in_err-n-in-TruncR g t c =
+    let m = g.M.VarMap.meaning c.args.map.now in
+    let r = g.M.VarMap.refusals c.args.map.now in
+    let i = c.args.depths.index in
+    let j = c.args.depths.tensor in
+    let w = c.in-TruncR in
+    let p = err_from_is_err_and c.from_residual-in_err-n-in-TruncR.result c.from_residual-in_err-n-in-TruncR.ensures.1 in
+    part_handed_on m r c.args.term.now i j TruncR c.copy-in-TruncR.result c.below-in-TruncR.result c.parts-in-TruncR.result c.in_err-n-in-TruncR.field-0.0
+    p.0 c.from_residual-in_err-n-in-TruncR.result c.parts-in-TruncR.ensures c.in_err-n-in-TruncR.was p.2 p.1
+    (of-TruncR m r c.args.term.now i j w.n w.e c.copy-in-TruncR.result c.below-in-TruncR.result w.is c.copy-in-TruncR.ensures c.below-in-TruncR.ensures)
+
+pub part-returns-in_err-n-in-PadL : goal.part-returns-in_err-n-in-PadL
+part-returns-in_err-n-in-PadL g t c =
+    let m = g.M.VarMap.meaning c.args.map.now in
+    let r = g.M.VarMap.refusals c.args.map.now in
+    let i = c.args.depths.index in
+    let j = c.args.depths.tensor in
+    let w = c.in-PadL in
+    let p = err_from_is_err_and c.from_residual-in_err-n-in-PadL.result c.from_residual-in_err-n-in-PadL.ensures.1 in
+    part_handed_on m r c.args.term.now i j PadL c.copy-in-PadL.result c.below-in-PadL.result c.parts-in-PadL.result c.in_err-n-in-PadL.field-0.0
+    p.0 c.from_residual-in_err-n-in-PadL.result c.parts-in-PadL.ensures c.in_err-n-in-PadL.was p.2 p.1
+    (of-PadL m r c.args.term.now i j w.n w.e c.copy-in-PadL.result c.below-in-PadL.result w.is c.copy-in-PadL.ensures c.below-in-PadL.ensures)
+
+pub part-returns-in_err-n-in-PadR : goal.part-returns-in_err-n-in-PadR
+part-returns-in_err-n-in-PadR g t c =
+    let m = g.M.VarMap.meaning c.args.map.now in
+    let r = g.M.VarMap.refusals c.args.map.now in
+    let i = c.args.depths.index in
+    let j = c.args.depths.tensor in
+    let w = c.in-PadR in
+    let p = err_from_is_err_and c.from_residual-in_err-n-in-PadR.result c.from_residual-in_err-n-in-PadR.ensures.1 in
+    part_handed_on m r c.args.term.now i j PadR c.copy-in-PadR.result c.below-in-PadR.result c.parts-in-PadR.result c.in_err-n-in-PadR.field-0.0
+    p.0 c.from_residual-in_err-n-in-PadR.result c.parts-in-PadR.ensures c.in_err-n-in-PadR.was p.2 p.1
+    (of-PadR m r c.args.term.now i j w.n w.e c.copy-in-PadR.result c.below-in-PadR.result w.is c.copy-in-PadR.ensures c.below-in-PadR.ensures)
