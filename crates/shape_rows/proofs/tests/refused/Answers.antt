@@ -1,0 +1,7 @@
+use Rattle.std.proofs.Common.{◌∙◌, ap}
+use Rattle.term_tree.specs.Scope.{term_scoped}
+use Rattle.shape_rows.proofs.tests.refused.Goals as goal
+
+pub shape-requires-clause-scoped : goal.shape-requires-clause-scoped
+shape-requires-clause-scoped c =
+    (0, 0, ap (λ n. term_scoped 0 c.args.term 0 n) ((c.in_ok-shapes.ensures {u = tt}).1) ∙ c.requires)
