@@ -1,13 +1,7 @@
 -- Loops that add what each item of a list gives to the end of another.
 use Rattle.std.proofs.Common.{◌≡◌, ℕ, zero, suc, ◌+◌, ◌<◌, ◌≤◌, List, [], ◌∷◌, ◌++◌, length, drop, take, get_or, append_assoc, refl, ap, sym, ◌∙◌, arith}
-use Rattle.std.proofs.Math.Seq.{drop-cons, take-suc}
-
--- the item at a place, and what follows it
-pub drop-item : {A : Type 0} (xs : List A) (i : ℕ) (x : A) → i < length xs → x ≡ get_or xs i x → drop i xs ≡ x ∷ drop (i + 1) xs
-drop-item xs i x h e = drop-cons xs i x h ∙ (λ k. sym e k ∷ drop (turn i k) xs)
-  where
-    turn : (i : ℕ) → suc i ≡ i + 1
-    turn i = omega arith
+use Rattle.std.proofs.Math.Seq.{take-suc}
+pub use Rattle.affine_index.proofs.Lists.{drop-item}
 
 -- what stands before a place, and the item at it
 pub take-item : {A : Type 0} (xs : List A) (i : ℕ) (x : A) → i < length xs → x ≡ get_or xs i x → take (i + 1) xs ≡ take i xs ++ x ∷ []

@@ -1,4 +1,4 @@
--- What copies, equality and the order of atoms, and forms made of items, rest on.
+-- What equality of atoms, and forms made of items, rest on.
 use Rattle.std.proofs.Common.{◌≡◌, ◌↔◌, ℕ, zero, suc, ◌+◌, ◌<◌, List, [], ◌∷◌, ◌++◌, length, take, get_or, refl, ap, sym, ◌∙◌, subst, Bool, true, false, ◌&&◌, not, IsTrue, arith}
 use Rattle.std.specs.Prelude.{pos}
 use Rattle.std.specs.Ordering.{int_eq, is_eq}
@@ -9,8 +9,8 @@ use Rattle.affine_index.specs.Form.{of_atom}
 use Rattle.affine_index.specs.Normal.{is_normal, is_ordered, none_zero}
 use Rattle.affine_index.specs.Order.{atom_order}
 use Rattle.affine_index.specs.Sum.{scaled}
+use Rattle.affine_index.proofs.ArithmeticLaws.{normal-ordered}
 use Rattle.affine_index.proofs.EqualLaws.{atom_order-Equal}
-use Rattle.affine_index.proofs.OrderLaws.{order-factors, order-items}
 use Rattle.affine_index.proofs.PutFree.{scaled-atom}
 use Rattle.affine_index.proofs.Sorted.{EachItem, GoodItem, ordered-terms}
 use Rattle.affine_index.proofs.TotalOrder.{order-same}
@@ -78,10 +78,5 @@ normal-nonzero i h = by i.terms (ordered-terms i (and_parts (is_ordered i) _ h).
     by : (ts : List (Item Atom)) → EachItem GoodItem ts → none_zero ts ≡ true
     by [] g = refl
     by (t ∷ ts) g = (λ k. to_not (int_eq t.coefficient (pos 0)) g.0.1 k && none_zero ts) ∙ by ts g.1
-
-pub normal-ordered : (i : Items) → is_normal i ≡ true → is_ordered i ≡ true
-normal-ordered i h = (and_parts (is_ordered i) _ h).0
-
-pub ruleset atom_laws = (same-test, order-factors, order-items)
 
 pub ruleset item_laws = (normal-nonzero, normal-ordered)

@@ -179,14 +179,6 @@ pub quotient-limits_is : (i : Items) (k : ℕ) → 0 < k → quotient_limits i k
 quotient-limits_is i zero h = absurd (omega arith)
 quotient-limits_is i (suc k) h = refl
 
--- the two bounds put together
-pub quotient-made : (i : Items) (k : ℕ) (none first both : List Limit) (up low : Option Items) (w t n : Items) → 0 < k → w ≡ i → t ≡ single (pos k) (Div i k) (pos 0) → n ≡ single (pos k) (Div i k) (pos (k - 1))
-    → up ≡ kept_form (difference_of w t) → low ≡ kept_form (difference_of n w) → none ≡ [] → first ≡ none ++ limit_if Upper up → both ≡ first ++ limit_if Lower low → both ≡ quotient_limits i k
-quotient-made i k none first both up low w t n h ew et en eu el e0 e1 e2 =
-    e2 ∙ (λ j. (e1 ∙ ap (λ l. l ++ limit_if Upper up) e0) j ++ limit_if Lower low)
-    ∙ (λ j. limit_if Upper ((eu ∙ (λ m. kept_form (difference_of (ew m) (et m)))) j) ++ limit_if Lower ((el ∙ (λ m. kept_form (difference_of (en m) (ew m)))) j))
-    ∙ sym (quotient-limits_is i k h)
-
 pub above-none : (i : Items) (k : ℕ) → NormalAtom (Div i k) → 0 < k
 above-none i k n = (dividend i k n).some
 

@@ -22,7 +22,7 @@ use Rattle.affine_index.specs.declared.form.Atom.TheVariants.{Size, Var, Div, Mu
 use Rattle.affine_index.specs.declared.form.Items.{Items}
 use Rattle.affine_index.specs.declared.form.Atom.TheOpen.{Atom-F}
 use Rattle.fact_list.proofs.AddLaws.{without-each}
-use Rattle.fact_list.proofs.AtomLaws.{normal-ordered}
+use Rattle.affine_index.proofs.ArithmeticLaws.{normal-ordered}
 use Rattle.fact_list.proofs.PartsOrdered.{parts-ordered}
 use Rattle.fact_list.proofs.NotNegative.{atom-not_negative, times-not_negative}
 use Rattle.fact_list.specs.Facts.{above_low, above_quotient, all_factor_facts, atom_facts, below_extent, below_high, below_next_quotient, binders, declared_facts, extent_at, fact_if, factor_facts, facts_of, followed, is_kept, kept_form, kept_product, layer_facts, layer_limits, limit_facts, limit_if, limit_products, limit_products_if, limits_of, meet, meet_all, moved_cmp, moved_facts, path_facts, product_of_others, quotient_limits, single, size_facts, size_limits, stated_facts, stated_if, times_others, var_limits}

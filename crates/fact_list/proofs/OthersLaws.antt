@@ -15,7 +15,7 @@ use Rattle.affine_index.proofs.VarLaws.{vars-items, vars-Mul}
 use Rattle.affine_index.specs.declared.form.Atom.{Atom}
 use Rattle.affine_index.specs.declared.form.Atom.TheVariants.{Mul}
 use Rattle.fact_list.proofs.AddLaws.{once-normal, without-each}
-use Rattle.fact_list.proofs.AtomLaws.{normal-ordered}
+use Rattle.affine_index.proofs.ArithmeticLaws.{normal-ordered}
 use Rattle.fact_list.proofs.CodeLaws.{kept-ok, product-apart}
 use Rattle.fact_list.specs.Joined.{joined}
 use Rattle.fact_list.specs.Facts.{NormalAtom, product_of_others, times_others}

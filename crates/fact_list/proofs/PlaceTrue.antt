@@ -16,7 +16,7 @@ use Rattle.affine_index.specs.declared.cond.Cmp.TheVariants.{Ge, Eq}
 use Rattle.affine_index.specs.declared.form.Atom.{Atom}
 use Rattle.affine_index.specs.declared.form.Atom.TheVariants.{Size, Var}
 use Rattle.affine_index.specs.declared.form.Items.{Items}
-use Rattle.fact_list.proofs.AtomLaws.{normal-ordered}
+use Rattle.affine_index.proofs.ArithmeticLaws.{normal-ordered}
 use Rattle.fact_list.proofs.FactsTrue.{at_least_zero-from}
 use Rattle.fact_list.specs.Facts.{above_low, below_extent, below_high, binders, declared_facts, fact_if, kept_form, moved_cmp, moved_facts, path_facts, single, size_facts, stated_facts, stated_if}
 use Rattle.fact_list.specs.Normal.{AllKept, PathKept}

@@ -7,14 +7,14 @@ ghost use Rattle.fact_list.specs.Facts.{NormalAtom, all_factor_facts, atom_facts
 ghost use Rattle.fact_list.specs.Atoms.{different, without};
 ghost use Rattle.fact_list.specs.Joined.{joined};
 
-use crate::atoms::{copy_atom, same_atoms};
 use crate::facts::Facts;
 use crate::forms::{copied, product, single};
 use crate::limits::{Limit, limits_of};
 use crate::met::Met;
 use crate::refusal::CertRefusal;
 use crate::role::{Fact, Role};
-use crate::search::begins;
+use crate::search::{begins, same_atoms};
+use affine_index::raw::copy_atom;
 use affine_index::{Aff, Atom, Cmp};
 use sqlite_items::Items;
 use std::alloc::Global;

@@ -5,10 +5,9 @@ ghost use Rattle.std.specs.Prelude.{true, ◌≡◌, ◌++◌, ◌^◌, ◌<◌,
 ghost use Rattle.affine_index.specs.Form.{literal_form};
 ghost use Rattle.affine_index.specs.Normal.{coefficient_fits, is_normal, none_zero};
 
-use crate::atoms::copy_atom;
 use crate::refusal::CertRefusal;
 use affine_index::Aff;
-use affine_index::raw::{Wide, copied, multiple, within_limits};
+use affine_index::raw::{Wide, copied, copy_atom, multiple, within_limits};
 use std::alloc::Global;
 
 /// Items of a normal form, to go on with.

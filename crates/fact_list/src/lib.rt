@@ -2,7 +2,7 @@
 #![tactic(auto)]
 
 mod adding;
-mod atoms;
+mod copying;
 mod declared;
 pub mod facts;
 mod forms;
@@ -17,10 +17,11 @@ mod search;
 pub mod told;
 mod walk;
 
-pub use atoms::same_atoms;
+pub use copying::{copy_bounds, copy_cmps, copy_facts, copy_path, copy_path_fact};
 pub use facts::{Facts, PathFact, SizeBounds};
 pub use forms::form_of;
 pub use items::number;
 pub use list::facts_of;
 pub use refusal::CertRefusal;
 pub use role::{Fact, Role, Side};
+pub use search::same_atoms;

@@ -3,15 +3,15 @@
 
 ghost use Rattle.std.specs.Prelude.{◌≡◌, ◌+◌, ◌<◌, ◌++◌, pos, IfOk, OnOk, Some};
 ghost use Rattle.std.specs.Option.{option_copied};
-ghost use Rattle.fact_list.specs.Facts.{NormalAtom, above_low, below_high, binders, extent_at, kept_form, limit_if, limits_of, quotient_limits, size_limits, var_limits};
+ghost use Rattle.fact_list.specs.Facts.{NormalAtom, above_low, above_quotient, below_high, below_next_quotient, binders, extent_at, kept_form, limit_if, limits_of, quotient_limits, size_limits, var_limits};
 ghost use Rattle.affine_index.specs.declared.form.Atom.TheVariants.{Div};
 
-use crate::atoms::copy_items;
 use crate::facts::{Facts, PathFact, SizeBounds};
 use crate::forms::{difference, single, single_kept};
 use crate::items::formed;
 use crate::refusal::CertRefusal;
 use crate::role::Side;
+use affine_index::raw::copy_items;
 use affine_index::{Aff, Atom};
 use sqlite_items::{Boxed, Items};
 use std::alloc::Global;
@@ -117,6 +117,34 @@ fn quotient_times(
     )
 }
 
+/// A dividend less its quotient times the divisor.
+fn above_quotient(
+    alloc: Global,
+    dividend: &affine_index::Items,
+    divisor: u32,
+) -> Result<Option<Aff>, CertRefusal>
+    requires { NormalAtom (Div dividend.now divisor) }
+    ensures { IfOk result (λ form. form ≡ kept_form (above_quotient dividend.now divisor)) }
+{
+    let whole = formed(alloc, dividend)?;
+    let times = quotient_times(alloc, dividend, divisor, 0)?;
+    difference(alloc, &whole, &times)
+}
+
+/// What a dividend may grow by before its quotient does.
+fn below_next_quotient(
+    alloc: Global,
+    dividend: &affine_index::Items,
+    divisor: u32,
+) -> Result<Option<Aff>, CertRefusal>
+    requires { NormalAtom (Div dividend.now divisor) }
+    ensures { IfOk result (λ form. form ≡ kept_form (below_next_quotient dividend.now divisor)) }
+{
+    let whole = formed(alloc, dividend)?;
+    let next = quotient_times(alloc, dividend, divisor, divisor - 1)?;
+    difference(alloc, &next, &whole)
+}
+
 fn quotient_limits(
     alloc: Global,
     dividend: &affine_index::Items,
@@ -125,11 +153,8 @@ fn quotient_limits(
     requires { NormalAtom (Div dividend.now divisor) }
     ensures { IfOk result (λ limits. limits ≡ quotient_limits dividend.now divisor) }
 {
-    let whole = formed(alloc, dividend)?;
-    let times = quotient_times(alloc, dividend, divisor, 0)?;
-    let above = difference(alloc, &whole, &times)?;
-    let next = quotient_times(alloc, dividend, divisor, divisor - 1)?;
-    let below = difference(alloc, &next, &whole)?;
+    let above = above_quotient(alloc, dividend, divisor)?;
+    let below = below_next_quotient(alloc, dividend, divisor)?;
     let mut limits = Items::new(alloc);
     push_limit(&mut limits, Side::Upper, above)?;
     push_limit(&mut limits, Side::Lower, below)?;

@@ -3,11 +3,11 @@
 ghost use Rattle.std.specs.Prelude.{◌≡◌, ◌++◌, ◌∷◌, [], IfOk};
 ghost use Rattle.fact_list.specs.Atoms.{stands_in};
 
-use crate::atoms::copy_atom;
 use crate::refusal::CertRefusal;
 use crate::role::Fact;
 use crate::search::{begins, place};
 use affine_index::Atom;
+use affine_index::raw::copy_atom;
 use sqlite_items::Items;
 use std::alloc::Global;
 use std::marker::Model;

@@ -4,12 +4,19 @@ ghost use Rattle.std.specs.Prelude.{◌≡◌, ◌∷◌};
 ghost use Rattle.std.specs.Ordering.{is_lt};
 ghost use Rattle.affine_index.proofs.Factors.{SortedFactors};
 ghost use Rattle.affine_index.specs.Order.{atom_order};
-ghost use Rattle.fact_list.specs.Atoms.{stands_in};
+ghost use Rattle.fact_list.specs.Atoms.{same_atoms, stands_in};
 ghost use Rattle.fact_list.specs.Sorted.{Splits};
 
-use crate::atoms::{order_atoms, same_atoms};
 use affine_index::Atom;
+use affine_index::raw::{order_atoms, same_atom};
 use std::cmp::Ordering;
+
+/// Whether two atoms are equal.
+pub fn same_atoms(a: &Atom, b: &Atom) -> bool
+    ensures { result ≡ same_atoms a.now b.now }
+{
+    same_atom(a, b)
+}
 
 fn stands_before(a: &Atom, b: &Atom) -> bool
     ensures { result ≡ is_lt (atom_order a.now b.now) }

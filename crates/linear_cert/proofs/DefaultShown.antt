@@ -20,7 +20,7 @@ use Rattle.affine_index.specs.declared.cond.Cmp.TheVariants.{Ge, Eq}
 use Rattle.affine_index.specs.declared.form.Atom.{Atom}
 use Rattle.affine_index.specs.declared.form.Item.{Item}
 use Rattle.affine_index.specs.declared.form.Items.{Items}
-use Rattle.fact_list.proofs.AtomLaws.{normal-ordered}
+use Rattle.affine_index.proofs.ArithmeticLaws.{normal-ordered}
 use Rattle.fact_list.proofs.FactsTrue.{at_least_zero-from, at_least_zero-is}
 use Rattle.fact_list.proofs.NotNegative.{times-not_negative}
 use Rattle.fact_list.specs.Normal.{AllNormal}

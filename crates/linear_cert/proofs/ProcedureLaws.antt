@@ -14,7 +14,7 @@ use Rattle.affine_index.proofs.OrderedLaws.{difference-ordered, scaled-ordered}
 use Rattle.affine_index.proofs.PutNorm.{normal-norm}
 use Rattle.affine_index.specs.declared.form.Items.{Items}
 use Rattle.fact_list.proofs.Appending.{append-none, drop-all, drop-item}
-use Rattle.fact_list.proofs.AtomLaws.{normal-ordered}
+use Rattle.affine_index.proofs.ArithmeticLaws.{normal-ordered}
 use Rattle.fact_list.specs.declared.role.Fact.{Fact}
 use Rattle.linear_cert.proofs.RoomLaws.{length-add, length-none, room-more}
 use Rattle.linear_cert.specs.DefaultLines.{add_at, attempt_lines, attempt_with, attempts_from, attempts_of_role, carried_on, finished, first_attempt, first_lines, lines_from, multiplier_fits, multipliers_fit, no_times, replaced, unless_done}

@@ -24,7 +24,7 @@ use Rattle.affine_index.specs.declared.form.Atom.{Atom, out-Atom}
 use Rattle.affine_index.specs.declared.form.Atom.TheVariants.{Mul}
 use Rattle.affine_index.specs.declared.form.Item.{Item}
 use Rattle.affine_index.specs.declared.form.Items.{Items}
-use Rattle.fact_list.proofs.AtomLaws.{normal-ordered}
+use Rattle.affine_index.proofs.ArithmeticLaws.{normal-ordered}
 use Rattle.fact_list.proofs.NotNegative.{times-not_negative}
 use Rattle.fact_list.specs.Normal.{AllNormal}
 use Rattle.fact_list.specs.declared.role.Fact.{Fact}

@@ -10,4 +10,5 @@ pub mod lines;
 mod procedure;
 
 pub use certificate::{default_lines, shown};
+pub use fact_list::{CertRefusal, Facts, PathFact, SizeBounds};
 pub use lines::{FinalLine, Line, Lines};
