@@ -11,6 +11,3 @@ mod terms;
 
 pub use fault::ReadFault;
 pub use source::read_module;
-
-#[cfg(test)]
-mod tests;

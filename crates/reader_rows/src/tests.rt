@@ -1,4 +1,4 @@
-use crate::{ReadFault, read_module};
+use atl_reader::{ReadFault, read_module};
 use term_tree::Term;
 
 #[test]
