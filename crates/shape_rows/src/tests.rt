@@ -64,75 +64,111 @@ fn inputs(alloc: Global, rank: usize) -> Result<Shapes, Fail>
 }
 
 /// `flatten(A)`
-fn flattened(alloc: Global) -> Result<Term, Fail>
+fn flattened(alloc: Global) -> Result<Boxed<Term>, Fail>
     ensures { IfOk result (λ e. term_scoped 0 e 0 2 ≡ true) }
 {
     let input = Boxed::new(alloc, Term::TVar(0))?;
-    Ok(Term::Flatten(input))
+    let term = Boxed::new(alloc, Term::Flatten(input))?;
+    Ok(term)
 }
 
 /// `split(1, A)`
-fn chunked(alloc: Global) -> Result<Term, Fail>
+fn chunked(alloc: Global) -> Result<Boxed<Term>, Fail>
     ensures { IfOk result (λ e. term_scoped 0 e 0 2 ≡ true) }
 {
     let input = Boxed::new(alloc, Term::TVar(0))?;
-    Ok(Term::Split(1, input))
+    let term = Boxed::new(alloc, Term::Split(1, input))?;
+    Ok(term)
+}
+
+/// `A`
+fn first(alloc: Global) -> Result<Boxed<Term>, Fail>
+    ensures { IfOk result (λ e. term_scoped 0 e 0 2 ≡ true) }
+{
+    let term = Boxed::new(alloc, Term::TVar(0))?;
+    Ok(term)
 }
 
 /// `concat(A, C)`
-fn joined(alloc: Global) -> Result<Term, Fail>
+fn joined(alloc: Global) -> Result<Boxed<Term>, Fail>
     ensures { IfOk result (λ e. term_scoped 0 e 0 2 ≡ true) }
 {
     let left = Boxed::new(alloc, Term::TVar(0))?;
     let right = Boxed::new(alloc, Term::TVar(1))?;
-    Ok(Term::Concat(left, right))
+    let term = Boxed::new(alloc, Term::Concat(left, right))?;
+    Ok(term)
 }
 
 /// A term plus C.
-fn added(alloc: Global, first: Term) -> Result<Term, Fail>
+fn added(alloc: Global, first: Boxed<Term>) -> Result<Boxed<Term>, Fail>
     requires first { term_scoped 0 first 0 2 ≡ true }
     ensures { IfOk result (λ e. term_scoped 0 e 0 2 ≡ true) }
 {
-    let left = Boxed::new(alloc, first)?;
     let right = Boxed::new(alloc, Term::TVar(1))?;
-    Ok(Term::Add(left, right))
+    let term = Boxed::new(alloc, Term::Add(first, right))?;
+    Ok(term)
 }
 
 /// Whether a term is refused so, where A has this rank.
 fn refused(
     alloc: Global,
     rank: usize,
-    term: Term,
+    term: Boxed<Term>,
     cause: Cause,
     steps: &[u32],
 ) -> Result<bool, Fail>
     requires { term_scoped 0 term 0 2 ≡ true }
 {
     let shapes = inputs(alloc, rank)?;
-    Ok(is_fault(shape(alloc, &shapes, &term), cause, steps))
+    Ok(is_fault(shape(alloc, &shapes, term.get()), cause, steps))
 }
 
 #[test]
 fn the_first_node_that_breaks_a_rule(rt: HostRuntime) -> Result<(), Fail> {
     let alloc = rt.alloc();
-    let alone = flattened(alloc)?;
-    assert!(rt; refused(alloc, 1, alone, Cause::RankMismatch, &[])?);
-    let flat = added(alloc, flattened(alloc)?)?;
-    assert!(rt; refused(alloc, 1, flat, Cause::RankMismatch, &[0])?);
-    let unlike = added(alloc, Term::TVar(0))?;
-    assert!(rt; refused(alloc, 1, unlike, Cause::ShapesDiffer, &[])?);
-    let high = added(alloc, chunked(alloc)?)?;
-    assert!(rt; refused(alloc, 8, high, Cause::RankTooLarge, &[0])?);
+    assert!(rt; refused(alloc, 1, flattened(alloc)?, Cause::RankMismatch, &[])?);
+    assert!(rt;
+        refused(
+            alloc,
+            1,
+            added(alloc, flattened(alloc)?)?,
+            Cause::RankMismatch,
+            &[0]
+        )?
+    );
+    assert!(rt;
+        refused(
+            alloc,
+            1,
+            added(alloc, first(alloc)?)?,
+            Cause::ShapesDiffer,
+            &[]
+        )?
+    );
+    assert!(rt;
+        refused(
+            alloc,
+            8,
+            added(alloc, chunked(alloc)?)?,
+            Cause::RankTooLarge,
+            &[0]
+        )?
+    );
     Ok(())
+}
+
+/// Whether the joined vectors have this extent.
+fn is_joined(alloc: Global, extent: &Aff) -> Result<bool, Fail> {
+    let shapes = inputs(alloc, 1)?;
+    let term = joined(alloc)?;
+    Ok(is_one(shape(alloc, &shapes, term.get()), extent))
 }
 
 #[test]
 fn joined_vectors_have_the_sum_of_their_extents(rt: HostRuntime) -> Result<(), Fail> {
     let alloc = rt.alloc();
-    let shapes = inputs(alloc, 1)?;
-    let term = joined(alloc)?;
     let nine = Aff::literal(alloc, 9)?;
-    assert!(rt; is_one(shape(alloc, &shapes, &term), &nine));
+    assert!(rt; is_joined(alloc, &nine)?);
     Ok(())
 }
 
@@ -141,7 +177,7 @@ fn name(alloc: Global, text: &str) -> Result<Name, Fail> {
 }
 
 /// `size N in 0..8`, the inputs, and one output.
-fn module(alloc: Global, inputs: Items<InputDecl>, term: Term) -> Result<Module, Fail>
+fn module(alloc: Global, inputs: Items<InputDecl>, term: Boxed<Term>) -> Result<Module, Fail>
     requires inputs { inputs_scoped 1 inputs ≡ true }
     requires term { term_scoped 1 term 0 (length inputs) ≡ true }
     ensures { IfOk result (λ m. (module_scoped m ≡ true) × (m.inputs ≡ inputs) × (length m.outputs ≡ 1)) }
@@ -155,7 +191,10 @@ fn module(alloc: Global, inputs: Items<InputDecl>, term: Term) -> Result<Module,
         high: 8,
     })?;
     let mut outputs = Items::new(alloc);
-    outputs.push(OutputDecl { name: output, term })?;
+    outputs.push(OutputDecl {
+        name: output,
+        term: term.into_inner(),
+    })?;
     Ok(Module {
         version: 1,
         sizes,
@@ -177,12 +216,20 @@ fn less_one(alloc: Global) -> Result<Aff, Fail>
 }
 
 /// `gen i < N - 1. 1`
-fn generated(alloc: Global) -> Result<Term, Fail>
+fn generated(alloc: Global) -> Result<Boxed<Term>, Fail>
     ensures { IfOk result (λ e. term_scoped 1 e 0 0 ≡ true) }
 {
     let extent = less_one(alloc)?;
     let body = Boxed::new(alloc, Term::Lit(1))?;
-    Ok(Term::Gen(extent, body))
+    let term = Boxed::new(alloc, Term::Gen(extent, body))?;
+    Ok(term)
+}
+
+/// Whether this is the one goal of the generation.
+fn is_goal(alloc: Global, extent: &Aff) -> Result<bool, Fail> {
+    let term = generated(alloc)?;
+    let module = module(alloc, Items::new(alloc), term)?;
+    Ok(is_one(extent_goals(alloc, &module), extent))
 }
 
 /// Whether default lines show a goal where N is from this number to 8.
@@ -200,10 +247,8 @@ fn is_shown(alloc: Global, low: u64, goal: &Aff) -> Result<bool, Fail> {
 #[test]
 fn the_extent_of_a_generation_is_a_goal(rt: HostRuntime) -> Result<(), Fail> {
     let alloc = rt.alloc();
-    let term = generated(alloc)?;
-    let module = module(alloc, Items::new(alloc), term)?;
     let extent = less_one(alloc)?;
-    assert!(rt; is_one(extent_goals(alloc, &module), &extent));
+    assert!(rt; is_goal(alloc, &extent)?);
     assert!(rt; is_shown(alloc, 1, &extent)?);
     assert!(rt; !is_shown(alloc, 0, &extent)?);
     Ok(())
@@ -216,7 +261,8 @@ fn an_input_has_at_most_rank_8(rt: HostRuntime) -> Result<(), Fail> {
     let extents = cube(alloc, 9, 4)?;
     let mut inputs = Items::new(alloc);
     inputs.push(InputDecl { name, extents })?;
-    let module = module(alloc, inputs, Term::Lit(1))?;
+    let word = Boxed::new(alloc, Term::Lit(1))?;
+    let module = module(alloc, inputs, word)?;
     assert!(rt; matches!(extent_goals(alloc, &module), Err(ShapeFault::InputRank(0))));
     Ok(())
 }

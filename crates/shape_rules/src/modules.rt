@@ -10,7 +10,7 @@ ghost use Rattle.term_tree.specs.Goals.{term_goals};
 ghost use Rattle.term_tree.specs.Modules as m;
 ghost use Rattle.term_tree.specs.Shape.{shape_of};
 
-use crate::extents::copies;
+use crate::extents::{copies, input_shapes};
 use crate::fault::{ShapeFault, fault};
 use crate::rules::LARGEST_RANK;
 use crate::shapes::Shapes;
@@ -30,17 +30,6 @@ fn high_input(inputs: &[InputDecl]) -> Option<usize>
         }
     }
     None
-}
-
-/// The shapes of the inputs.
-fn input_shapes(alloc: Global, inputs: &[InputDecl]) -> Result<Items<Items<Aff>>, ShapeFault>
-    ensures { MatchResult result (λ ts. ts ≡ map (λ d. d.extents) inputs.now) (λ e. e ≡ ShapeFault.Memory) }
-{
-    let mut shapes = Items::new(alloc);
-    for input in inputs {
-        shapes.push(copies(alloc, input.extents.as_slice())?)?;
-    }
-    Ok(shapes)
 }
 
 /// The extents of the inputs, one behind another.

@@ -9,6 +9,5 @@ use Rattle.shape_rows.proofs.tests.added.Goals as goal
 pub returns : goal.returns
 returns c =
     ap (λ e. term_scoped 0 e 0 2)
-    (Add-is c.in_ok-left.left c.in_ok-right.right
-    ∙ (λ i. add (c.in_ok-left.ensures {u = tt} i) (c.in_ok-right.ensures {u = tt} i)))
+    (c.in_ok-term.ensures {u = tt} ∙ Add-is c.args.first c.in_ok-right.right ∙ (λ i. add c.args.first (c.in_ok-right.ensures {u = tt} i)))
     ∙ and_from (term_scoped 0 c.args.first 0 2) true c.requires.first refl

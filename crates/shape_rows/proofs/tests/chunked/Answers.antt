@@ -5,4 +5,5 @@ use Rattle.term_tree.proofs.Forms.{Split-is}
 use Rattle.shape_rows.proofs.tests.chunked.Goals as goal
 
 pub returns : goal.returns
-returns c = ap (λ e. term_scoped 0 e 0 2) (Split-is 1 c.in_ok-input.input ∙ ap (split 1) (c.in_ok-input.ensures {u = tt}))
+returns c =
+    ap (λ e. term_scoped 0 e 0 2) (c.in_ok-term.ensures {u = tt} ∙ Split-is 1 c.in_ok-input.input ∙ ap (split 1) (c.in_ok-input.ensures {u = tt}))

@@ -5,4 +5,5 @@ use Rattle.term_tree.proofs.Forms.{Flatten-is}
 use Rattle.shape_rows.proofs.tests.flattened.Goals as goal
 
 pub returns : goal.returns
-returns c = ap (λ e. term_scoped 0 e 0 2) (Flatten-is c.in_ok-input.input ∙ ap flatten (c.in_ok-input.ensures {u = tt}))
+returns c =
+    ap (λ e. term_scoped 0 e 0 2) (c.in_ok-term.ensures {u = tt} ∙ Flatten-is c.in_ok-input.input ∙ ap flatten (c.in_ok-input.ensures {u = tt}))

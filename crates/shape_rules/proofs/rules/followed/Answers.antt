@@ -12,7 +12,7 @@ pub returns-clause-shape : goal.returns-clause-shape
 returns-clause-shape c a b h =
     let n = c.in-Some.n in
     let m = c.in-Some-take_first.m in
-    let e : length c.take_first.new.extents ≡ length c.take_first-2.new.extents = omega arith in
-    let g : same_forms c.take_first.new.extents c.take_first-2.new.extents ≡ true = cc in
+    let e : length c.take_first.new.items ≡ length c.take_first-2.new.items = omega arith in
+    let g : same_forms c.take_first.new.items c.take_first-2.new.items ≡ true = cc in
     both_ruled a b of_concat c.args.operands c.in_ok-first.field-0 _ _ c.with_first.result (c.in_ok-first.was {u = tt}) c.in-Some.ensures c.in-Some-take_first.ensures h
     (concat_answer n m _ _ c.with_first.result e g (c.with_first.ensures _ c.add.ensures.form))

@@ -13,4 +13,4 @@ pub returns-clause-shape : goal.returns-clause-shape
 returns-clause-shape c shape h =
     ruled shape (tiled_shape c.args.k) c.args.child c.in_ok-rest.rest _ c.with_first.result (c.in_ok-rest.ensures {u = tt}).ok c.in-Some.ensures h
     (subst (λ (ns : Extents). IsAnswer (limited (tiles c.args.k c.in-Some.n ∷ ns)) c.with_first.result)
-    (c.in_ok-chunk.ensures {u = tt} ∙ ap (λ n. n ∷ c.take_first.new.extents) (c.in_ok-literal.ensures {u = tt})) (c.with_first.ensures (tiles c.args.k c.in-Some.n) c.tiles.ensures))
+    (c.in_ok-chunk.ensures {u = tt} ∙ ap (λ n. n ∷ c.take_first.new.items) (c.in_ok-literal.ensures {u = tt})) (c.with_first.ensures (tiles c.args.k c.in-Some.n) c.tiles.ensures))
