@@ -21,7 +21,7 @@ use Rattle.term_tree.specs.Modules.{inputs_scoped}
 use Rattle.atl_meaning.specs.Exact.{all_below, all_counted, all_exact, inputs_counted, is_counted, is_exact}
 use Rattle.atl_meaning.specs.Words.{any_large, any_large_comparison, at_least_one, first_big_input, first_of, is_large, largest_index, too_big, words_at, words_of}
 use Rattle.atl_meaning.proofs.FormBounds.{form-fits}
-use Rattle.atl_meaning.proofs.MagnitudeBounds.{form-most}
+use Rattle.affine_index.proofs.MagnitudeBounds.{form-most}
 
 pub below-at : (n : ℕ) (f : ℕ → Bool) (i : ℕ) → all_below n f ≡ true → i < n → f i ≡ true
 below-at zero f i h l = absurd (omega (arith, l))

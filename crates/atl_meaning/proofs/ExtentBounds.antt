@@ -24,7 +24,7 @@ use Rattle.atl_meaning.specs.Surveyed.{Survey, outputs_surveyed, surveyed, surve
 use Rattle.atl_meaning.specs.Words.{any_large, any_large_comparison, at_least_one, first_of, is_large, largest_index}
 use Rattle.atl_meaning.proofs.DenotedLaws.{extents-is}
 use Rattle.atl_meaning.proofs.ExactLaws.{extent-small, first-none, none-at}
-use Rattle.atl_meaning.proofs.FormScopes.{rows-scoped, rest-extents, concatenated-scoped, flattened-scoped, chunked-scoped, transposed-scoped, shortened-scoped, lengthened-scoped, shape-scoped, under-scoped}
+use Rattle.atl_meaning.proofs.ExtentScopes.{rows-scoped, rest-extents, concatenated-scoped, flattened-scoped, chunked-scoped, transposed-scoped, shortened-scoped, lengthened-scoped, shape-scoped, under-scoped}
 use Rattle.atl_meaning.proofs.ScopeLaws.{sized-of}
 use Rattle.atl_meaning.proofs.SurveyLaws.{child-shape, extents-are, ok-value}
 use Rattle.term_tree.proofs.Folds.{fold-lit, fold-t_var, fold-word_of, fold-index, fold-gen, fold-sum, fold-guard, fold-let_in, fold-add, fold-sub, fold-mul, fold-concat, fold-flatten, fold-split, fold-transpose, fold-trunc_l, fold-trunc_r, fold-pad_l, fold-pad_r}

@@ -26,19 +26,14 @@ use Rattle.affine_index.specs.declared.form.Atom.{Atom}
 use Rattle.affine_index.specs.declared.form.Atom.TheVariants.{Size, Var, Div, Mul}
 use Rattle.affine_index.specs.declared.form.Item.{Item}
 use Rattle.affine_index.specs.declared.form.Items.{Items}
-use Rattle.atl_meaning.proofs.MagnitudeBounds.{form-most}
+use Rattle.affine_index.proofs.MagnitudeBounds.{abs-sum, both, form-most}
 
 limited-is : (z : ℤ) → unsigned_abs z < 2 ^ 120 → limited z ≡ Some z
 limited-is z h = grind arith
 
-abs-sum : (a b : ℤ) → unsigned_abs (a +ℤ b) ≤ unsigned_abs a + unsigned_abs b
-abs-sum a b = grind (arith, ints)
-
 up-size : (x : ℤ) (m : ℕ) → UpTo x m → unsigned_abs x ≤ m
 up-size x m u = omega (arith, ap unsigned_abs u.is, u.most)
 
-both : (a b c d : ℕ) → a ≤ b → c ≤ d → a * c ≤ b * d
-both a b c d p q = grind arith
 
 least : (m n : ℕ) → 1 ≤ m → 1 ≤ n → 1 ≤ m * n
 least m n p q = grind arith

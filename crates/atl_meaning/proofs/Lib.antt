@@ -4,9 +4,8 @@ pub mod ExactLaws
 pub mod ExtentBounds
 pub mod FitLaws
 pub mod FormBounds
-pub mod FormScopes
+pub mod ExtentScopes
 pub mod ListLaws
-pub mod MagnitudeBounds
 pub mod ModuleLaws
 pub mod PlaceLaws
 pub mod ScopeLaws
@@ -15,7 +14,6 @@ pub mod ShapeCode
 pub mod SurveyCode
 pub mod SurveyExact
 pub mod SurveyLaws
-pub mod TileLaws
 pub mod TurnFold
 pub mod TurnLaws
 pub mod ValueLaws

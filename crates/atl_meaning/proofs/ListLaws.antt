@@ -3,6 +3,7 @@ use Rattle.std.proofs.Common.{◌≡◌, ℕ, zero, suc, ◌+◌, List, [], ◌�
 use Rattle.atl_meaning.specs.Lists.{rest_of}
 use Rattle.term_tree.specs.Tensors.{Tensor, copies, drop_last, from_rows, joined, plus_places, rows_of, tabulate, total, zeros}
 use Rattle.term_tree.specs.Meaning.{chunks, columns, row_at, tail_of}
+use Rattle.term_tree.proofs.TensorLaws.{rows_of-from_rows}
 use Rattle.atl_meaning.specs.declared.tensor.Tensor.{Tensor as Value}
 
 -- one more entry at the end
@@ -23,10 +24,6 @@ copies-last n x = ap (λ k. copies k x) (add-one n) ∙ copies-suc n x
 pub map-last : {A B : Type 0} → (f : A → B) (xs : List A) (x : A) → map f (xs ++ x ∷ []) ≡ map f xs ++ f x ∷ []
 map-last f [] x = refl
 map-last f (y ∷ xs) x = ap (λ ys. f y ∷ ys) (map-last f xs x)
-
-pub rows_of-rows : (xs : List Tensor) → rows_of (from_rows xs) ≡ xs
-rows_of-rows [] = refl
-rows_of-rows (x ∷ xs) = ap (λ ys. x ∷ ys) (rows_of-rows xs)
 
 pub rest_of-drop : {A : Type 0} → (n : ℕ) (xs : List A) → drop (n + 1) xs ≡ rest_of (drop n xs)
 rest_of-drop n xs = ap (λ k. drop k xs) (add-one n) ∙ by n xs
@@ -68,7 +65,7 @@ pub zeros-row : (ds : List ℕ) (i : ℤ) → row_at (rows_of (zeros ds)) i (zer
 zeros-row [] (pos i) = refl
 zeros-row [] (negsuc i) = refl
 zeros-row (n ∷ ds) (negsuc i) = refl
-zeros-row (n ∷ ds) (pos i) = ap (λ rows. get_or rows i (zeros ds)) (rows_of-rows (copies n (zeros ds))) ∙ copy_at n i (zeros ds)
+zeros-row (n ∷ ds) (pos i) = ap (λ rows. get_or rows i (zeros ds)) (rows_of-from_rows (copies n (zeros ds))) ∙ copy_at n i (zeros ds)
   where
     copy_at : {A : Type 0} → (n i : ℕ) (x : A) → get_or (copies n x) i x ≡ x
     copy_at zero i x = refl
@@ -120,4 +117,4 @@ drop-whole [] (suc k) h = refl
 drop-whole (x ∷ xs) zero h = absurd (omega (arith, h))
 drop-whole (x ∷ xs) (suc k) h = drop-whole xs k (omega (arith, h))
 
-pub ruleset last_laws = (tabulate-last, copies-last, map-last, rows_of-rows)
+pub ruleset last_laws = (tabulate-last, copies-last, map-last, rows_of-from_rows)

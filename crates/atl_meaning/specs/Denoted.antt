@@ -116,10 +116,6 @@ tensor_in s e r bs = (denoted s e).tensor r (scope bs)
 abbrev pub body_in : List ℕ → Term → List ℕ → List Binding → ℕ → Tensor
 body_in s e r bs i = tensor_in s e (i ∷ r) bs
 
--- the tensor of a body under its definition
-abbrev pub let_value : List ℕ → Term → Term → List ℕ → List Binding → Tensor
-let_value s a b r bs = (denoted s b).tensor r ((extents_in s a bs, tensor_in s a r bs) ∷ scope bs)
-
 -- the tensors of outputs under these tensors
 abbrev pub outputs_tensors : List ℕ → List OutputDecl → List Bound → List Tensor
 outputs_tensors s os t = map (λ o. (denoted s o.term).tensor [] t) os

@@ -1,14 +1,12 @@
 //! Extents as forms: those that each operator gives, where they are within the limits of forms.
 
-ghost use Rattle.std.specs.Prelude.{◌≡◌, ◌<◌, ◌≤◌, ◌∷◌, [], true, Ok, IfOk, IsOkUnless, MatchOption, MatchResult};
-ghost use Rattle.affine_index.specs.Normal.{Refused};
+ghost use Rattle.std.specs.Prelude.{◌≡◌, ◌<◌, ◌≤◌, true, Ok, IfOk, IsOkUnless};
 ghost use Rattle.shape_rules.specs.Scopes.{each_free};
-ghost use Rattle.term_tree.specs.Shape.{tiles};
 ghost use Rattle.atl_meaning.specs.Forms.{chunked_forms, concatenated_forms, each_within, flattened_forms, lengthened_forms, shortened_forms, transposed_forms};
 ghost use Rattle.atl_meaning.specs.Lists.{rest_of};
 
-use affine_index::raw::{copied, quotient, sum, within_limits};
 use affine_index::{Aff, AffRefusal};
+use shape_rules::extents::{in_front, take_first, tiles};
 use sqlite_items::Items;
 use std::alloc::{AllocError, Global};
 
@@ -21,44 +19,6 @@ fn made(form: Result<Aff, AffRefusal>) -> Result<Aff, AllocError>
         Ok(form) => Ok(form),
         Err(_) => Err(AllocError),
     }
-}
-
-pub fn copy(alloc: Global, form: &Aff) -> Result<Aff, AllocError>
-    ensures { IfOk result (λ f. f ≡ form.now) }
-{
-    made(form.copy(alloc))
-}
-
-/// Equal extents.
-pub fn copies(alloc: Global, extents: &[Aff]) -> Result<Items<Aff>, AllocError>
-    ensures { IfOk result (λ copies. copies ≡ extents.now) }
-{
-    let mut copies = Items::new(alloc);
-    for form in extents {
-        copies.push(copy(alloc, form)?)?;
-    }
-    Ok(copies)
-}
-
-/// Takes the first extent, where there is one.
-fn take_first(extents: &mut Items<Aff>) -> Option<Aff>
-    ensures { MatchOption result ((extents.old ≡ []) × (extents.new ≡ [])) (λ n. extents.old ≡ n ∷ extents.new) }
-{
-    if extents.is_empty() {
-        None
-    } else {
-        Some(extents.remove(0))
-    }
-}
-
-/// An extent in front of others.
-pub fn in_front(alloc: Global, first: Aff, rest: Items<Aff>) -> Result<Items<Aff>, AllocError>
-    ensures { IfOk result (λ ns. ns ≡ first ∷ rest) }
-{
-    let mut extents = Items::new(alloc);
-    extents.push(first)?;
-    extents.append(rest)?;
-    Ok(extents)
 }
 
 /// The extents of a row.
@@ -112,20 +72,6 @@ pub fn transposed(alloc: Global, extents: Items<Aff>) -> Result<Items<Aff>, Allo
     };
     let others = in_front(alloc, n, rest)?;
     in_front(alloc, m, others)
-}
-
-/// How many chunks of k hold n rows. The form on the way has no limits.
-fn tiles(alloc: Global, k: u32, n: &Aff) -> Result<Aff, AffRefusal>
-    requires positive { 0 < k }
-    requires limit { k ≤ 2147483647 }
-    ensures { MatchResult result (λ form. form ≡ tiles k n.now) (Refused (tiles k n.now)) }
-{
-    let more = Aff::literal(alloc, i64::from(k - 1))?;
-    let a = copied(alloc, n)?;
-    let b = copied(alloc, &more)?;
-    let total = sum(alloc, a, b)?;
-    let chunks = quotient(alloc, total, k)?;
-    within_limits(alloc, chunks)
 }
 
 /// The extents of chunks of k rows.

@@ -1,5 +1,5 @@
 //! The first node with too many words.
-#![tactic(auto, using(crate::proofs::FormScopes::scope_laws))]
+#![tactic(auto, using(crate::proofs::ExtentScopes::scope_laws))]
 
 ghost use Rattle.std.specs.Prelude.{◌≡◌, ◌+◌, ◌<◌, ◌≤◌, ◌∷◌, [], get_or, length, true, false, IfOk, IsOk, IsTrue, OnOk};
 ghost use Rattle.term_tree.specs.Shape.{shape_of};
@@ -11,14 +11,14 @@ ghost use Rattle.atl_meaning.specs.Scopes.{placed, sized};
 ghost use Rattle.affine_index.specs.Limited.{items_scoped};
 
 use crate::forms::{
-    chunked, concatenated, copies, copy, flattened, in_front, lengthened, shortened, transposed,
-    without_first,
+    chunked, concatenated, flattened, lengthened, shortened, transposed, without_first,
 };
 use crate::found::Found;
 use crate::stack::Stack;
 use crate::variables::Variables;
 use crate::words::{any_large_comparison, first_of, is_large, too_big, words_at};
 use affine_index::Aff;
+use shape_rules::extents::{copies, copy, in_front};
 use sqlite_items::Items;
 use std::alloc::{AllocError, Global};
 use term_tree::Term;
