@@ -16,6 +16,7 @@ use atl_reader::{ReadFault, read_module};
 use c_print::print_c;
 use loop_lang::Prog;
 use lowering::lower;
+use owned_values::spent;
 use std::alloc::{AllocError, AllocFailed, Global};
 use term_tree::Module;
 
@@ -118,7 +119,11 @@ fn text_of(alloc: Global, module: &Module) -> Result<Vec<u8>, CompileRefusal>
     ensures { MatchResult result (λ text. AreLoops «module».now text.items) (λ refusal. refusal ≡ Memory) }
 {
     match lowered(alloc, module) {
-        Ok(program) => printed(alloc, &program),
+        Ok(program) => {
+            let text = printed(alloc, &program);
+            spent(program);
+            text
+        }
         Err(refusal) => Err(refusal),
     }
 }

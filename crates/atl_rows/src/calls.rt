@@ -1,0 +1,76 @@
+//! Calls of the program over one file in memory.
+
+use atl_driver::{Status, atl};
+use atl_edges::{Files, MemFiles, MemSink, Sink, SureFiles};
+use std::alloc::{AllocError, Global};
+use std::process::Abort;
+use std::test::Fail;
+
+/// The words that compile the file.
+pub const COMPILE: [&str; 2] = ["compile", "a.atl"];
+
+type Held = Vec<(String, Vec<u8>)>;
+
+fn held(alloc: Global, content: &[u8]) -> Result<Held, AllocError> {
+    let mut held = Vec::new(alloc);
+    held.push((String::from_str(alloc, "a.atl")?, content.to_vec(alloc)?))?;
+    Ok(held)
+}
+
+fn texts(alloc: Global, words: &[&str]) -> Result<Vec<String>, AllocError> {
+    let mut texts = Vec::new(alloc);
+    for word in words {
+        texts.push(String::from_str(alloc, word)?)?;
+    }
+    Ok(texts)
+}
+
+/// A call over files and sinks of any kind.
+fn call<F: Files, O: Sink, E: Sink>(
+    alloc: Global,
+    words: &[&str],
+    files: &mut F,
+    out: &mut O,
+    err: &mut E,
+) -> Result<Status, AllocError> {
+    let words = texts(alloc, words)?;
+    Ok(atl(alloc, words.as_slice(), files, out, err))
+}
+
+/// The status of a call where the file can be read, with sinks of this room of which the puts of these numbers
+/// fail: what it writes is compared.
+pub fn written(
+    rt: &impl Abort,
+    alloc: Global,
+    content: &str,
+    room: u64,
+    failing: &[u64],
+    texts: (&str, &str),
+) -> Result<Status, Fail> {
+    let mut files = SureFiles::new(held(alloc, content.as_bytes())?);
+    let mut out = MemSink::new(alloc, room, failing.to_vec(alloc)?)?;
+    let mut err = MemSink::new(alloc, room, failing.to_vec(alloc)?)?;
+    let status = call(alloc, &COMPILE, &mut files, &mut out, &mut err)?;
+    assert_eq!(rt; out.written(), texts.0.as_bytes());
+    assert_eq!(rt; err.written(), texts.1.as_bytes());
+    Ok(status)
+}
+
+/// The status of a call of these words over a file of which the reads of these numbers fail, with sinks of ample
+/// room: what it writes is compared.
+pub fn told(
+    rt: &impl Abort,
+    alloc: Global,
+    words: &[&str],
+    content: &[u8],
+    failing: &[u64],
+    texts: (&str, &str),
+) -> Result<Status, Fail> {
+    let mut files = MemFiles::new(held(alloc, content)?, failing.to_vec(alloc)?);
+    let mut out = MemSink::new(alloc, 1024, Vec::new(alloc))?;
+    let mut err = MemSink::new(alloc, 64, Vec::new(alloc))?;
+    let status = call(alloc, words, &mut files, &mut out, &mut err)?;
+    assert_eq!(rt; out.written(), texts.0.as_bytes());
+    assert_eq!(rt; err.written(), texts.1.as_bytes());
+    Ok(status)
+}

@@ -1,0 +1,11 @@
+//! Worked rows of the top call, as tests, so that `atl_driver` is not proved with them each time.
+#![tactic(auto)]
+
+#[cfg(test)]
+mod calls;
+#[cfg(test)]
+mod lines;
+#[cfg(test)]
+mod outside;
+#[cfg(test)]
+mod sources;

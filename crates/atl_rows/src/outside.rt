@@ -1,0 +1,85 @@
+//! What the program answers and writes: statuses, refusals, words that are Usage, and puts that fail.
+
+use crate::calls::{COMPILE, told, written};
+use atl_driver::Status;
+use atl_edges::FILE_LIMIT;
+use std::test::Fail;
+
+#[test]
+fn a_file_that_is_not_read_has_its_line(rt: HostRuntime) -> Result<(), Fail> {
+    let alloc = rt.alloc();
+    let texts = ("", "ReadFault\n");
+    let table: [(&[&str], &[u64]); 2] = [(&COMPILE, &[1]), (&["compile", "b"], &[])];
+    for (words, failing) in table {
+        let status = told(&rt, alloc, words, b"atl 1;", failing, texts)?;
+        assert!(rt; matches!(status, Status::ReadFault));
+    }
+    let long = vec![in alloc; 97u8; FILE_LIMIT + 1]?;
+    let texts = ("", "TooLong taken 1048577\n");
+    let status = told(&rt, alloc, &COMPILE, long.as_slice(), &[], texts)?;
+    assert!(rt; matches!(status, Status::TooLong { taken: 1_048_577 }));
+    Ok(())
+}
+
+#[test]
+fn a_text_that_leaves_the_form_is_refused_at_its_place(rt: HostRuntime) -> Result<(), Fail> {
+    let alloc = rt.alloc();
+    let table: [(&[u8], &str); 7] = [
+        (b"", "F60 NotBuilt at 0\n"),
+        (b"atl 2;", "F60 NotBuilt at 4\n"),
+        (b"atl 1; output B = 1 - 2;", "F60 NotBuilt at 20\n"),
+        (
+            b"atl 1; size N in 0..8; example N = 9;",
+            "F60 NotBuilt at 35\n",
+        ),
+        (
+            b"atl 1; size N in 0..8; example N = 3; input N",
+            "F60 NotBuilt at 44\n",
+        ),
+        (b"atl 1; # to the end", "F60 NotBuilt at 19\n"),
+        (b"atl 1; \xff", "F60 NotBuilt at 7\n"),
+    ];
+    for (source, line) in table {
+        let status = told(&rt, alloc, &COMPILE, source, &[], ("", line))?;
+        assert!(rt; matches!(status, Status::Refused(_)));
+    }
+    Ok(())
+}
+
+#[test]
+fn other_words_are_usage(rt: HostRuntime) -> Result<(), Fail> {
+    let alloc = rt.alloc();
+    let texts = ("", "usage: atl compile SRC\n");
+    let table: [&[&str]; 6] = [
+        &[],
+        &["frob"],
+        &["compile"],
+        &["compile", "a.atl", "a.atl"],
+        &["compile", ""],
+        &["compile", "-a"],
+    ];
+    for words in table {
+        let status = told(&rt, alloc, words, b"atl 1;", &[], texts)?;
+        assert!(rt; matches!(status, Status::Usage));
+    }
+    Ok(())
+}
+
+// A text that is due on `out`, and one whose line is due on `err`, each cut by the room, and where the first put
+// fails.
+#[test]
+fn a_failing_put_is_a_write_fault(rt: HostRuntime) -> Result<(), Fail> {
+    let alloc = rt.alloc();
+    let number = "atl 1; output B = 5;";
+    let table: [(&str, u64, &[u64], (&str, &str)); 4] = [
+        (number, 8, &[], ("#include", "")),
+        ("", 4, &[], ("", "F60 ")),
+        (number, 1024, &[1], ("", "")),
+        ("", 1024, &[1], ("", "")),
+    ];
+    for (content, room, failing, texts) in table {
+        let status = written(&rt, alloc, content, room, failing, texts)?;
+        assert!(rt; matches!(status, Status::WriteFault));
+    }
+    Ok(())
+}
