@@ -1,0 +1,11 @@
+pub mod Forms
+mod Loops
+mod Relations
+mod Parts
+mod Following
+mod IndexLaws
+mod ArgumentLaws
+mod StepLaws
+mod ScriptLaws
+mod Bytes
+mod WholeLaws

@@ -1,0 +1,21 @@
+use Rattle.std.proofs.Common.{◌≡◌, ◌+◌, ◌-◌, ◌<◌, Ok, true, sym, ap, ◌∙◌, arith, rules}
+use Rattle.text_tokens.specs.declared.kind.Kind.TheVariants as k
+use Rattle.text_tokens.specs.Kinds.{same_kind}
+use Rattle.text_tokens.specs.Words.{next}
+use Rattle.reader_laws.specs.Steps.{kind}
+use Rattle.reader_laws.specs.Chain.{repeated}
+use Rattle.reader_laws.proofs.Repeated.{went}
+use Rattle.schedule_script.specs.Words.{most_steps, with_last}
+use Rattle.schedule_script.specs.Steps.{step}
+use Rattle.schedule_script.proofs.Loops as loops
+use Rattle.schedule_script.proofs.script.steps.Goals as goal
+
+pub loop-turn-preserved : goal.loop-turn-preserved
+loop-turn-preserved c =
+    let sign : same_kind (kind c.loop-turn.tokens) k.At ≡ true = search rules in
+    let reads : step (next c.loop-turn.tokens) ≡ Ok (c.in_ok-next.next, c.step.new.tokens) = search rules in
+    let most = loops.few_steps in
+    let below : c.loop-turn._turn < most_steps = omega (arith, most, c.loop-turn-test.true) in
+    c.loop-turn.invariant ∙ went k.At with_last
+    (λ _. step) most_steps c.loop-turn._turn c.loop-turn.found c.in_ok-next.next c.loop-turn.tokens c.step.new.tokens below sign reads
+    ∙ ap (λ x. repeated k.At with_last (λ _. step) (most_steps - (c.loop-turn._turn + 1)) x c.step.new.tokens) (sym c.in_ok-push.ensures.ok)

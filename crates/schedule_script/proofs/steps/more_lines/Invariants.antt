@@ -1,0 +1,10 @@
+use Rattle.std.proofs.Common.{◌≡◌, ◌-◌}
+use Rattle.text_tokens.specs.declared.kind.Kind.TheVariants as k
+use Rattle.reader_laws.specs.Chain.{repeated}
+use Rattle.schedule_script.specs.Words.{most_items, with_last}
+use Rattle.schedule_script.specs.Steps.{line}
+use Rattle.schedule_script.proofs.steps.more_lines.Given as goal
+
+abbrev pub invariant-loop-turn : goal.invariant-loop-turn
+invariant-loop-turn l = repeated k.Comma with_last (λ _. line) most_items l.fn.found l.fn.tokens ≡ repeated k.Comma with_last (λ _. line)
+    (most_items - l._turn) l.found l.tokens

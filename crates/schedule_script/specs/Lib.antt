@@ -1,0 +1,6 @@
+pub mod Syntax
+pub mod Words
+pub mod Index
+pub mod Arguments
+pub mod Steps
+pub mod Script
