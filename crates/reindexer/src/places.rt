@@ -122,8 +122,8 @@ fn fixed(alloc: Global, index: &Aff, indices: Items<Aff>) -> Result<Items<Aff>, 
     in_front(alloc, index, indices)
 }
 
-/// What one frame makes of the indices.
-fn limited_frame(
+/// What one frame makes of the indices, where it finds what it needs, else none.
+pub fn limited_frame(
     alloc: Global,
     frame: &Frame,
     indices: Items<Aff>,
@@ -180,8 +180,8 @@ fn zero(alloc: Global) -> Result<Aff, AffRefusal>
     Ok(form)
 }
 
-/// The row-order place of indices in extents.
-fn row_place(alloc: Global, extents: &[Aff], indices: &[Aff]) -> Result<Aff, AffRefusal>
+/// The row-order place of indices in extents: 0 where there are none of either. Two forms for each extent after the first.
+pub fn row_place(alloc: Global, extents: &[Aff], indices: &[Aff]) -> Result<Aff, AffRefusal>
     requires { extents_ready extents.now ≡ true }
     ensures { Answers (row_place extents.now indices.now) result }
 {

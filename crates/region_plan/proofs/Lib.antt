@@ -1,0 +1,9 @@
+pub mod Forms
+pub mod LengthLaws
+pub mod ModuleLaws
+pub mod NeedLaws
+pub mod OutputLaws
+pub mod PlanLaws
+pub mod RangeLaws
+pub mod SameLaws
+pub mod WalkLaws
