@@ -7,15 +7,8 @@ use Rattle.atl_driver.specs.declared.fault.FaultField.{FaultField}
 use Rattle.atl_driver.specs.declared.fault.FaultField.TheVariants as field
 use Rattle.atl_driver.specs.declared.refusal.Refusal.{Refusal}
 use Rattle.atl_driver.specs.declared.refusal.Refusal.TheVariants.{Refused, Usage, ReadFault, TooLong, Memory}
-use Rattle.loop_lang.specs.declared.word.Buf.{Buf}
-use Rattle.loop_lang.specs.declared.word.Buf.TheVariants.{Input, Output, Scratch}
+use Rattle.c_print.specs.Word.{buffer_name}
 use Rattle.term_tree.specs.declared.term.Path.{Path}
-
--- a buffer's name in C
-abbrev pub buffer_name : Buf → List ℕ
-buffer_name (Input number) = codes "a" ++ decimal number
-buffer_name (Output number) = codes "b" ++ decimal number
-buffer_name (Scratch number) = codes "s" ++ decimal number
 
 -- a further step of a path, behind a dot
 abbrev pub step_text : ℕ → List ℕ

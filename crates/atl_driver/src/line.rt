@@ -1,22 +1,12 @@
 // The line of a fault.
 ghost use Rattle.std.specs.Prelude.{◌≡◌, ◌<◌, ◌≤◌, IfOk, string_bytes};
-ghost use Rattle.atl_driver.specs.Line.{buffer_name, path_text, field_word, field_value, field_text, fault_head, fault_line};
+ghost use Rattle.atl_driver.specs.Line.{path_text, field_word, field_value, field_text, fault_head, fault_line};
 ghost use Rattle.atl_driver.specs.Names.{fault_name, source_fault_name, script_fault_name, final_fault_name, run_fault_name};
 
 use crate::{Fault, FaultField};
-use loop_lang::Buf;
+use c_print::buffer_name;
 use std::alloc::{AllocError, Global};
 use term_tree::Path;
-
-fn buffer_name(alloc: Global, buffer: Buf) -> Result<String, AllocError>
-    ensures { IfOk result (λ name. string_bytes name ≡ buffer_name buffer) }
-{
-    match buffer {
-        Buf::Input(number) => format!(in alloc; "a{number}"),
-        Buf::Output(number) => format!(in alloc; "b{number}"),
-        Buf::Scratch(number) => format!(in alloc; "s{number}"),
-    }
-}
 
 fn path_text(alloc: Global, path: &Path) -> Result<String, AllocError>
     ensures { IfOk result (λ text. string_bytes text ≡ path_text path.now) }

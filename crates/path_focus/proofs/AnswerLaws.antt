@@ -8,7 +8,7 @@ use Rattle.term_tree.specs.Limits.{coefficients_fit, forms_short}
 use Rattle.term_tree.specs.declared.term.Term.{Term}
 use Rattle.path_focus.specs.Focus.{IsTrueGoal, KeepsMeaning, KeepsShape}
 use Rattle.path_focus.specs.Outcome.{AllTrueGoals, IsDraft, IsOutcome, Makes, Meant, MeantKeeps, Unfit, Unlike, limited}
-use Rattle.path_focus.specs.declared.focus.Focus.{Focus}
+use Rattle.path_focus.specs.declared.place.Focus.{Focus}
 use Rattle.path_focus.specs.declared.outcome.Outcome.TheVariants.{Made}
 use Rattle.path_focus.specs.declared.outcome.Rewrite.{Rewrite}
 use Rattle.path_focus.specs.declared.rule.Condition.{Condition}

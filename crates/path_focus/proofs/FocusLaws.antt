@@ -25,7 +25,7 @@ use Rattle.path_focus.specs.Focus.{AllowedBy, Each, EachNotNegative, focus_at}
 use Rattle.path_focus.specs.Frames.{Way, refilled}
 use Rattle.path_focus.specs.Laws.{FocusIsProper, IsLimited}
 use Rattle.path_focus.specs.Places.{at_end, no_way}
-use Rattle.path_focus.specs.declared.focus.BoundLet.{BoundLet}
+use Rattle.path_focus.specs.declared.place.BoundLet.{BoundLet}
 use Rattle.path_focus.proofs.CountLaws.{end_lets, end_many, end_path, moved_apart, moved_below, way_fewer}
 use Rattle.path_focus.proofs.ModuleLaws.{Found, bounds_length, bounds_of, length-map, output_goals, settled, some_at, there_valued, way_found}
 use Rattle.path_focus.proofs.ProperLaws.{all_fit, fine_end}

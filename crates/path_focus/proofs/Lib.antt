@@ -1,4 +1,5 @@
 pub mod AnswerLaws
+pub mod CallLaws
 pub mod ChildLaws
 pub mod CountLaws
 pub mod EndLaws
@@ -12,4 +13,5 @@ pub mod MovedLaws
 pub mod PlaceLaws
 pub mod ProperLaws
 pub mod SteadyLaws
+pub mod TrailLaws
 pub mod WayLaws

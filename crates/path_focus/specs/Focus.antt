@@ -23,8 +23,8 @@ use Rattle.term_tree.specs.declared.term.Term.{Term}
 use Rattle.path_focus.specs.Frames.{Way, plugged, way}
 use Rattle.path_focus.specs.Numbers.{GoalsFit}
 use Rattle.path_focus.specs.Places.{at_end, moved_lets, no_way}
-use Rattle.path_focus.specs.declared.focus.BoundLet.{BoundLet}
-use Rattle.path_focus.specs.declared.focus.Focus.{Focus}
+use Rattle.path_focus.specs.declared.place.BoundLet.{BoundLet}
+use Rattle.path_focus.specs.declared.place.Focus.{Focus}
 use Rattle.path_focus.specs.declared.rule.Condition.{Condition}
 
 -- the focus at the end of a way, within the term of an output

@@ -11,7 +11,7 @@ use Rattle.term_tree.specs.Counts.{node_count}
 use Rattle.term_tree.specs.Limits.{coefficients_fit, every_form, forms_short}
 use Rattle.term_tree.specs.declared.term.Term.{Term}
 use Rattle.path_focus.specs.Focus.{IsProper, IsTrueGoal, KeepsMeaning, KeepsShape}
-use Rattle.path_focus.specs.declared.focus.Focus.{Focus}
+use Rattle.path_focus.specs.declared.place.Focus.{Focus}
 use Rattle.path_focus.specs.declared.outcome.Draft.{Draft}
 use Rattle.path_focus.specs.declared.outcome.Draft.TheVariants.{Whole, TooLarge, TooLong, TooMany}
 use Rattle.path_focus.specs.declared.outcome.Outcome.{Outcome}

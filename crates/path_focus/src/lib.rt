@@ -1,13 +1,18 @@
 //! Places in modules: what is known there, and a term put in place of another.
 #![tactic(auto)]
 
-mod focus;
 pub mod laws;
 mod outcome;
+mod place;
+mod plugging;
+mod reaching;
 mod rule;
+mod trail;
 mod verdict;
 
-pub use focus::{BoundLet, Focus, PathRefusal};
 pub use outcome::{Draft, Outcome, Rewrite};
+pub use place::{BoundLet, Focus, PathRefusal};
+pub use plugging::plug;
+pub use reaching::focus;
 pub use rule::{Arg, Condition, Law, RuleFault};
 pub use verdict::finish;
