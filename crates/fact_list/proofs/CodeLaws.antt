@@ -1,5 +1,5 @@
 -- What the code that makes facts rests on.
-use Rattle.std.proofs.Common.{◌≡◌, ℕ, zero, suc, ◌+◌, ◌-◌, ◌^◌, ◌<◌, ◌≤◌, List, [], ◌∷◌, map, refl, ap, sym, ◌∙◌, Bool, true, false, ◌&&◌, ◌++◌, nat_le, nat_lt, Option, Some, None, arith}
+use Rattle.std.proofs.Common.{◌≡◌, ℕ, zero, suc, ◌+◌, ◌^◌, ◌<◌, ◌≤◌, List, [], ◌∷◌, map, refl, ap, sym, ◌∙◌, Bool, true, false, ◌&&◌, ◌++◌, nat_le, nat_lt, Option, Some, None, arith}
 use Rattle.std.specs.Prelude.{ℤ, pos, negsuc, if◌then◌else◌, slice_get}
 use Rattle.std.specs.Int.RustNames.{unsigned_abs}
 use Rattle.std.specs.Ordering.{int_eq}
@@ -7,7 +7,6 @@ use Rattle.std.proofs.lemmas.Bool.{and_from, and_parts}
 use Rattle.affine_index.specs.Count.{atom_count, items_count, total}
 use Rattle.affine_index.specs.Normal.{all_remainders, atom_good, coefficient_fits, coefficients_fit, has_items, holds_var, is_normal, is_ordered, is_remainder, is_short, items_good, layer_good, terms_fit}
 use Rattle.affine_index.specs.Product.{product_of}
-use Rattle.affine_index.specs.Sum.{difference_of}
 use Rattle.affine_index.proofs.CountLaws.{count-Div, count-Mul, count-Size, count-Var, count-items}
 use Rattle.affine_index.proofs.EveryLaws.{every-Size, every-Var}
 use Rattle.affine_index.proofs.Factors.{Ordered, mul_parts}
@@ -21,7 +20,6 @@ use Rattle.affine_index.specs.declared.form.Item.{Item}
 use Rattle.affine_index.specs.declared.form.Items.{Items}
 use Rattle.fact_list.specs.Facts.{NormalAtom, above_quotient, below_next_quotient, extent_at, kept_form, kept_product, layer_limits, limit_if, limits_of, quotient_limits, single, size_limits, var_limits}
 use Rattle.fact_list.specs.declared.facts.Facts.{Facts}
-use Rattle.fact_list.specs.declared.limits.Limit.{Limit}
 use Rattle.fact_list.specs.declared.role.Side.TheVariants.{Lower, Upper}
 
 -- a form that is kept

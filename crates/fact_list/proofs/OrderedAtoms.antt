@@ -15,7 +15,7 @@ use Rattle.std.proofs.lemmas.List.{length-drop}
 use Rattle.fact_list.specs.Atoms.{same_atoms, stands_in}
 use Rattle.fact_list.specs.Sorted.{Known, less_than, Splits}
 
-less-at_most : (x y z : Atom) → atom_order x y ≡ Less → AtMost y z → atom_order x z ≡ Less
+pub less-at_most : (x y z : Atom) → atom_order x y ≡ Less → AtMost y z → atom_order x z ≡ Less
 less-at_most x y z l m = by (atom_order y z) refl m
   where
     by : (o : Ordering) → atom_order y z ≡ o → is_le o ≡ true → atom_order x z ≡ Less
@@ -120,7 +120,7 @@ each-put P a xs zero p h = (p, h)
 each-put P a [] (suc n) p h = (p, tt)
 each-put P a (x ∷ xs) (suc n) p h = (h.0, each-put P a xs n p h.1)
 
-sorted-put : (a : Atom) (xs : List Atom) (n : ℕ) → SortedFactors xs → Each (less_than a) (take n xs) → Each (AtMost a) (drop n xs) → SortedFactors (take n xs ++ a ∷ drop n xs)
+pub sorted-put : (a : Atom) (xs : List Atom) (n : ℕ) → SortedFactors xs → Each (less_than a) (take n xs) → Each (AtMost a) (drop n xs) → SortedFactors (take n xs ++ a ∷ drop n xs)
 sorted-put a xs zero s b c = (c, s)
 sorted-put a [] (suc n) s b c = (tt, tt)
 sorted-put a (x ∷ xs) (suc n) s b c = (each-put (AtMost x) a xs n (ap is_le b.0) s.0, sorted-put a xs n s.1 b.1 c)

@@ -1,5 +1,5 @@
 -- Guards of well scoped facts keep small variable numbers when they are moved to the end of the path.
-use Rattle.std.proofs.Common.{◌≡◌, ℕ, suc, ◌+◌, ◌^◌, ◌≤◌, List, [], ◌∷◌, length, refl, true, ◌&&◌, arith}
+use Rattle.std.proofs.Common.{◌≡◌, ℕ, suc, ◌+◌, ◌^◌, ◌≤◌, List, [], ◌∷◌, length, refl, ap, sym, ◌∙◌, Bool, true, false, ◌&&◌, nat_lt, arith}
 use Rattle.std.proofs.lemmas.Bool.{and_from, and_parts}
 use Rattle.affine_index.specs.Condition.{all_scoped, cmp_form}
 use Rattle.affine_index.specs.Limited.{items_scoped}
@@ -7,7 +7,7 @@ use Rattle.affine_index.specs.Put.{numbers_fit}
 use Rattle.affine_index.proofs.ScopedMoves.{form-fits}
 use Rattle.affine_index.specs.declared.cond.Cmp.{Cmp}
 use Rattle.fact_list.specs.Facts.{binders, cmps_fit, moves_fit}
-use Rattle.fact_list.specs.Scoped.{ScopedFactsMove, has_comparison, path_scoped}
+use Rattle.fact_list.specs.Scoped.{ScopedFactsMove, has_comparison, path_scoped, step_scoped}
 use Rattle.fact_list.specs.declared.facts.PathFact.{PathFact}
 use Rattle.fact_list.specs.declared.facts.PathFact.TheVariants.{Bound, Holds}
 
@@ -35,3 +35,38 @@ pub scoped-fits : ScopedFactsMove
 scoped-fits f h few =
     let p = and_parts (all_scoped (length f.sizes) 0 f.assumes) (path_scoped (length f.sizes) 0 f.path) h in
     (scoped-path (length f.sizes) 0 f.path (omega (arith, few)) p.1).0
+
+pub has-some : (cs : List Cmp) → has_comparison cs ≡ nat_lt 0 (length cs)
+has-some [] = refl
+has-some (c ∷ cs) = some (length cs)
+  where
+    some : (n : ℕ) → true ≡ nat_lt 0 (suc n)
+    some n = grind arith
+
+pub binder-few : (p : PathFact) (count : ℕ) → binders (p ∷ []) ≡ count + 0 → count ≤ 1
+binder-few (Bound n) count e = omega (arith, e)
+binder-few (Holds c) count e = omega (arith, e)
+
+-- a node of a path, and what follows it
+pub step-next : (s d count : ℕ) (p : PathFact) (ps : List PathFact) → binders (p ∷ []) ≡ count + 0 → step_scoped s d p ≡ true
+    → path_scoped s (d + count) ps ≡ path_scoped s d (p ∷ ps)
+step-next s d count (Bound n) ps e h = ap (λ k. path_scoped s k ps) (turn d count e) ∙ sym (ap (λ b. b && path_scoped s (suc d) ps) h)
+  where
+    turn : (d count : ℕ) → 1 ≡ count + 0 → d + count ≡ suc d
+    turn d count e = omega (arith, e)
+step-next s d count (Holds c) ps e h =
+    let p = and_parts (has_comparison c.all) (all_scoped s d c.all) h in
+    ap (λ k. path_scoped s k ps) (turn d count e) ∙ sym (λ k. p.0 k && (p.1 k && path_scoped s d ps))
+  where
+    turn : (d count : ℕ) → 0 ≡ count + 0 → d + count ≡ d
+    turn d count e = omega (arith, e)
+
+pub step-false : (s d : ℕ) (p : PathFact) (ps : List PathFact) → step_scoped s d p ≡ false → path_scoped s d (p ∷ ps) ≡ false
+step-false s d (Bound n) ps h = ap (λ b. b && path_scoped s (suc d) ps) h
+step-false s d (Holds c) ps h = by (has_comparison c.all) (all_scoped s d c.all) (path_scoped s d ps) h
+  where
+    by : (a b r : Bool) → (a && b) ≡ false → (a && (b && r)) ≡ false
+    by true b r h = ap (λ x. x && r) h
+    by false b r h = refl
+
+pub ruleset scoped_laws = (has-some)

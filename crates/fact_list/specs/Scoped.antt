@@ -19,6 +19,11 @@ path_scoped sizes depth [] = true
 path_scoped sizes depth (Bound n ∷ ps) = items_scoped sizes 0 n && path_scoped sizes (suc depth) ps
 path_scoped sizes depth (Holds c ∷ ps) = has_comparison c.all && (all_scoped sizes depth c.all && path_scoped sizes depth ps)
 
+-- the same of a node alone
+abbrev pub step_scoped : ℕ → ℕ → PathFact → Bool
+step_scoped sizes depth (Bound n) = items_scoped sizes 0 n
+step_scoped sizes depth (Holds c) = has_comparison c.all && all_scoped sizes depth c.all
+
 -- whether facts are well scoped: the assumes too hold declared sizes alone
 abbrev pub facts_scoped : Facts → Bool
 facts_scoped f = all_scoped (length f.sizes) 0 f.assumes && path_scoped (length f.sizes) 0 f.path

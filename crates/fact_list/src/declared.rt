@@ -110,7 +110,7 @@ fn bound_facts(
 }
 
 /// One for a binder, and none for a guard.
-fn binder_count(fact: &PathFact) -> usize
+pub fn binder_count(fact: &PathFact) -> usize
     ensures { (ps : List PathFact) → binders (fact.now ∷ ps) ≡ result + binders ps }
 {
     match fact {

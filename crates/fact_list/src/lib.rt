@@ -13,6 +13,7 @@ mod list;
 mod met;
 pub mod refusal;
 pub mod role;
+mod scoped;
 mod search;
 pub mod told;
 mod walk;
