@@ -1,0 +1,16 @@
+pub mod Accepted
+pub mod AptLaws
+pub mod Closed
+pub mod LengthExact
+pub mod Main
+pub mod MarkLaws
+pub mod NeedScoped
+pub mod PlaceValues
+pub mod PrintedScoped
+pub mod Raw
+pub mod ShapeGood
+pub mod Walk
+pub mod WordedLaws
+pub mod OutsideForms
+pub mod StepForms
+pub mod ClaimForms

@@ -1,0 +1,11 @@
+pub mod Accepted
+pub mod Form
+pub mod Goals
+pub mod Met
+pub mod Owed
+pub mod Places
+pub mod Printed
+pub mod Reads
+pub mod Rules
+pub mod Worded
+pub mod Steps
