@@ -1,15 +1,11 @@
 -- The fold that tells whether a term is well scoped is the definition by cases.
-use Rattle.std.proofs.Common.{◌≡◌, ℕ, ◌+◌, List, [], ◌∷◌, map, Bool, ◌&&◌, nat_le, nat_lt, refl, ap, ◌∙◌}
-use Rattle.affine_index.proofs.ReadyLaws.{scoped-Size, scoped-Var, scoped-Div, scoped-Mul, scoped-items, scoped_term}
-use Rattle.affine_index.specs.Limited.{all_firsts, atom_scoped, items_scoped}
-use Rattle.affine_index.specs.declared.form.Atom.{Atom}
-use Rattle.affine_index.specs.declared.form.Item.{Item}
-use Rattle.affine_index.specs.declared.form.Items.{Items}
+use Rattle.std.proofs.Common.{◌≡◌, ℕ, ◌+◌, Bool, ◌&&◌, nat_le, nat_lt, ap, ◌∙◌}
+use Rattle.affine_index.specs.Limited.{items_scoped}
 use Rattle.term_tree.proofs.Folds.{fold-lit, fold-t_var, fold-word_of, fold-index, fold-gen, fold-sum, fold-guard, fold-let_in, fold-add, fold-sub, fold-mul, fold-concat, fold-flatten, fold-split, fold-transpose, fold-trunc_l, fold-trunc_r, fold-pad_l, fold-pad_r}
 use Rattle.term_tree.specs.Scope.{cond_scoped, largest_tile, term_scoped}
 use Rattle.term_tree.specs.Syntax.{index, gen, sum, guard, let_in, add, sub, mul, concat, flatten, split, transpose, trunc_l, trunc_r, pad_l, pad_r}
 use Rattle.term_tree.specs.declared.term.Term.{Term, Lit, TVar, WordOf}
-use Rattle.meaning_rows.specs.Scopes.{scope_fold, scope_step, terms_scoped}
+use Rattle.meaning_rows.specs.Scopes.{scope_fold, scope_step}
 
 module _ (s : ℕ) where
   pub scope_fold-is : (e : Term) (v t : ℕ) → scope_fold s e v t ≡ term_scoped s e v t
@@ -32,13 +28,3 @@ module _ (s : ℕ) where
   scope_fold-is (trunc_r n e) v t = ap (λ f. f v t) (fold-trunc_r (ℕ → ℕ → Bool) (scope_step s) n e) ∙ (λ x. items_scoped s 0 n && scope_fold-is e v t x)
   scope_fold-is (pad_l n e) v t = ap (λ f. f v t) (fold-pad_l (ℕ → ℕ → Bool) (scope_step s) n e) ∙ (λ x. items_scoped s 0 n && scope_fold-is e v t x)
   scope_fold-is (pad_r n e) v t = ap (λ f. f v t) (fold-pad_r (ℕ → ℕ → Bool) (scope_step s) n e) ∙ (λ x. items_scoped s 0 n && scope_fold-is e v t x)
-
-module _ (s v : ℕ) where
-  firsts : (ts : List (Item Atom)) → all_firsts (map (scoped_term s v) ts) ≡ terms_scoped s v ts
-  firsts [] = refl
-  firsts (t ∷ ts) = ap (λ b. atom_scoped s v t.atom && b) (firsts ts)
-
-  pub form_scoped : (i : Items) → items_scoped s v i ≡ terms_scoped s v i.terms
-  form_scoped i = scoped-items s v i ∙ firsts i.terms
-
-pub ruleset scope_laws = (scoped-Size, scoped-Var, scoped-Div, scoped-Mul, form_scoped)

@@ -1,8 +1,6 @@
 -- Whether a term is well scoped, as a fold.
-use Rattle.std.specs.Prelude.{ℕ, ◌+◌, Bool, true, ◌&&◌, nat_le, nat_lt, List, [], ◌∷◌}
-use Rattle.affine_index.specs.Limited.{atom_scoped, items_scoped}
-use Rattle.affine_index.specs.declared.form.Atom.{Atom}
-use Rattle.affine_index.specs.declared.form.Item.{Item}
+use Rattle.std.specs.Prelude.{ℕ, ◌+◌, Bool, true, ◌&&◌, nat_le, nat_lt}
+use Rattle.affine_index.specs.Limited.{items_scoped}
 use Rattle.term_tree.specs.Scope.{cond_scoped, largest_tile}
 use Rattle.term_tree.specs.declared.term.Term.{Term}
 use Rattle.term_tree.specs.declared.term.Term.TheOpen.{Term-F}
@@ -33,8 +31,3 @@ module _ (sizes : ℕ) where
 
   abbrev pub scope_fold : Term → ℕ → ℕ → Bool
   scope_fold = fold-Term (ℕ → ℕ → Bool) scope_step
-
--- whether each number of a size and of a variable in these items is below these
-abbrev pub terms_scoped : ℕ → ℕ → List (Item Atom) → Bool
-terms_scoped sizes vars [] = true
-terms_scoped sizes vars (t ∷ ts) = atom_scoped sizes vars t.atom && terms_scoped sizes vars ts

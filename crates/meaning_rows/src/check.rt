@@ -1,62 +1,23 @@
 //! What a module denotes, where what `denote` asks of it is found to hold.
 
-ghost use Rattle.std.specs.Prelude.{◌≡◌, ◌≤◌, [], IfOk, length, map, true};
-ghost use Rattle.shape_rules.specs.Admitted.{AllShown, module_facts};
+ghost use Rattle.std.specs.Prelude.{◌≡◌, ◌≤◌, [], IfOk, length, true};
+ghost use Rattle.shape_rules.specs.Admitted.{AllShown};
 ghost use Rattle.term_tree.specs.Modules.{IsSound};
 
 use crate::given::{are_inputs, is_allowed};
 use crate::scope::module_scoped;
-use affine_index::{Aff, Cmp};
+use affine_index::Aff;
 use atl_meaning::{MeaningFault, Tensor, denote};
-use fact_list::{Facts, SizeBounds};
+use fact_list::Facts;
 use linear_cert::{Lines, shown};
-use shape_rules::extent_goals;
+use shape_rules::{extent_goals, module_facts};
 use sqlite_items::Items;
 use std::alloc::Global;
 use std::test::Fail;
-use term_tree::{Module, SizeDecl};
+use term_tree::Module;
 
 /// The most inputs, and outputs, that are looked at.
 const MOST: usize = 100;
-
-fn bounds(alloc: Global, declared: &[SizeDecl]) -> Result<Items<SizeBounds>, Fail>
-    ensures { IfOk result (λ bounds. bounds ≡ map (λ d. record { low = d.low; high = d.high }) declared.now) }
-{
-    let mut bounds = Items::new(alloc);
-    for size in declared {
-        bounds.push(SizeBounds {
-            low: size.low,
-            high: size.high,
-        })?;
-    }
-    Ok(bounds)
-}
-
-fn copied(alloc: Global, cmps: &[Cmp]) -> Result<Items<Cmp>, Fail>
-    ensures { IfOk result (λ copies. copies ≡ cmps.now) }
-{
-    let mut copies = Items::new(alloc);
-    for cmp in cmps {
-        match cmp {
-            Cmp::Ge(x) => copies.push(Cmp::Ge(x.copy(alloc)?))?,
-            Cmp::Eq(x) => copies.push(Cmp::Eq(x.copy(alloc)?))?,
-        }
-    }
-    Ok(copies)
-}
-
-/// The declared bounds and the assumes.
-fn facts(alloc: Global, module: &Module) -> Result<Facts, Fail>
-    ensures { IfOk result (λ facts. facts ≡ module_facts «module».now) }
-{
-    let sizes = bounds(alloc, module.sizes.as_slice())?;
-    let assumes = copied(alloc, module.assumes.as_slice())?;
-    Ok(Facts {
-        sizes,
-        assumes,
-        path: Items::new(alloc),
-    })
-}
 
 fn all_shown(alloc: Global, facts: &Facts, goals: &[Aff]) -> Result<bool, Fail>
     requires sizes { length facts.now.sizes ≤ 2147483647 }
@@ -84,8 +45,8 @@ fn is_sound(alloc: Global, module: &Module) -> Result<bool, Fail>
     }
     match extent_goals(alloc, module) {
         Ok(goals) => {
-            let facts = facts(alloc, module)?;
-            Ok(all_shown(alloc, &facts, goals.as_slice())?)
+            let facts = module_facts(alloc, module)?;
+            all_shown(alloc, &facts, goals.as_slice())
         }
         Err(_) => Ok(false),
     }

@@ -10,7 +10,6 @@ ghost use Rattle.term_tree.specs.Meaning.{extent};
 ghost use Rattle.term_tree.specs.Tensors.{Word};
 ghost use Rattle.term_tree.specs.Modules.{Allowed, AreInputs, IsWithin, extents_at};
 
-use crate::scope::form_scoped;
 use affine_index::{Aff, Cmp};
 use atl_meaning::Tensor;
 use term_tree::{InputDecl, Module, SizeDecl};
@@ -33,7 +32,7 @@ fn is_within(declared: &[SizeDecl], sizes: &[u64]) -> bool
 fn value(form: &Aff, sizes: &[u64]) -> Option<i128>
     ensures { IfSome result (λ z. z ≡ items_value sizes.now [] form.now) }
 {
-    if !form_scoped(form.items(), sizes.len() as u64, 0) {
+    if !form.is_scoped(sizes.len(), 0) {
         return None;
     }
     form.value(sizes, &[])

@@ -3,9 +3,8 @@
 ghost use Rattle.std.specs.Prelude.{◌≡◌, map, IfOk};
 ghost use Rattle.shape_rules.specs.Admitted.{module_facts};
 
-use crate::extents::copy;
 use affine_index::Cmp;
-use fact_list::{Facts, SizeBounds};
+use fact_list::{Facts, SizeBounds, copy_cmps};
 use sqlite_items::Items;
 use std::alloc::{AllocError, Global};
 use term_tree::{Module, SizeDecl};
@@ -24,25 +23,14 @@ fn bounds(alloc: Global, declared: &[SizeDecl]) -> Result<Items<SizeBounds>, All
     Ok(bounds)
 }
 
-/// An equal comparison.
-fn copied(alloc: Global, cmp: &Cmp) -> Result<Cmp, AllocError>
-    ensures { IfOk result (λ copy. copy ≡ cmp.now) }
-{
-    match cmp {
-        Cmp::Ge(x) => Ok(Cmp::Ge(copy(alloc, x)?)),
-        Cmp::Eq(x) => Ok(Cmp::Eq(copy(alloc, x)?)),
-    }
-}
-
 /// Equal comparisons.
 fn assumed(alloc: Global, cmps: &[Cmp]) -> Result<Items<Cmp>, AllocError>
     ensures { IfOk result (λ copies. copies ≡ cmps.now) }
 {
-    let mut copies = Items::new(alloc);
-    for cmp in cmps {
-        copies.push(copied(alloc, cmp)?)?;
+    match copy_cmps(alloc, cmps) {
+        Ok(copies) => Ok(copies),
+        Err(_) => Err(AllocError),
     }
-    Ok(copies)
 }
 
 /// The declared bounds and the assumes, which hold outside all gens, sums and guards.

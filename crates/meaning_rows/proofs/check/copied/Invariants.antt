@@ -1,5 +1,0 @@
-use Rattle.std.proofs.Common.{◌≡◌, take}
-use Rattle.meaning_rows.proofs.check.copied.Given as goal
-
-abbrev pub invariant-loop-cmp : goal.invariant-loop-cmp
-invariant-loop-cmp l = l.copies ≡ take l.cmp-index l.cmps
