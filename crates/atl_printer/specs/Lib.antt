@@ -1,0 +1,12 @@
+pub mod IndexTokens
+pub mod TermTokens
+pub mod Canonical
+pub mod ReadTree
+pub mod Held
+pub mod Printable
+pub mod PrintableModule
+pub mod Page
+pub mod IndexPages
+pub mod FormPages
+pub mod TermPages
+pub mod ModulePages
