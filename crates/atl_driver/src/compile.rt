@@ -2,7 +2,7 @@
 ghost use Rattle.std.specs.Prelude.{◌≡◌, ◌≢◌, ◌≤◌, [], ◌∷◌, length, All, IfOk, IsErrOf, MatchResult, map};
 ghost use Rattle.loop_lang.specs.Form.{IsWellFormed};
 ghost use Rattle.lowering.specs.Correct.{HasLengths, IsCorrect};
-ghost use Rattle.term_tree.specs.SmallForm.{IsSmall};
+ghost use Rattle.small_form.specs.SmallForm.{IsSmall};
 ghost use Rattle.lowering.specs.Lowered.{loops_of};
 ghost use Rattle.c_print.specs.Program.{canonical_text};
 ghost use Rattle.atl_driver.specs.Compile.{Answers, Tells, compiled, decided, fault_of as fault_for, first_content};

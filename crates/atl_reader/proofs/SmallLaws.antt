@@ -27,7 +27,7 @@ use Rattle.term_tree.specs.Syntax.{index, gen, add, mul}
 use Rattle.term_tree.specs.Shape.{Extents}
 use Rattle.term_tree.specs.Scope.{term_scoped}
 use Rattle.term_tree.specs.Modules.{extents_scoped, inputs_scoped, module_scoped, IsWithin}
-use Rattle.term_tree.specs.SmallForm.{largest_bound, IsSize, IndicesFit, ReadFits, WordFits, NestFits, IsSmall}
+use Rattle.small_form.specs.SmallForm.{largest_bound, IsSize, IndicesFit, ReadFits, WordFits, NestFits, IsSmall}
 use Rattle.reader_laws.specs.declared.fault.Fault.{Fault}
 use Rattle.reader_laws.specs.declared.fault.Fault.TheVariants.{NumberTooLarge, NotBuilt}
 use Rattle.reader_laws.specs.Steps.{place_from}

@@ -1,6 +1,6 @@
 -- What the form that is read so far is limited to, beside the limits of the language.
 use Rattle.std.specs.Prelude.{ℕ}
-use Rattle.term_tree.specs.SmallForm as small
+use Rattle.small_form.specs.SmallForm as small
 
 -- the largest bound of a size, and the largest number of an example
 abbrev pub largest_bound : ℕ

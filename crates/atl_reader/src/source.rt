@@ -7,7 +7,7 @@ ghost use Rattle.text_tokens.specs.declared.kind.Language.TheVariants as languag
 ghost use Rattle.affine_index.specs.Form.{size_form};
 ghost use Rattle.term_tree.specs.declared.term.Module.{Module as Value};
 ghost use Rattle.term_tree.specs.Modules.{module_scoped, IsWithin};
-ghost use Rattle.term_tree.specs.SmallForm.{IsSmall};
+ghost use Rattle.small_form.specs.SmallForm.{IsSmall};
 ghost use Rattle.reader_laws.specs.Steps as steps;
 ghost use Rattle.reader_laws.specs.Steps.{Reads, Gives};
 ghost use Rattle.atl_reader.specs.Source as spec;

@@ -12,7 +12,7 @@ use Rattle.term_tree.specs.declared.term.Module.{Module}
 use Rattle.term_tree.specs.Syntax.{index, gen, sum, guard, let_in, add, sub, mul, concat, flatten, split, transpose, trunc_l, trunc_r, pad_l, pad_r}
 use Rattle.term_tree.specs.Shape.{Extents}
 use Rattle.term_tree.specs.Modules.{input_shapes}
-use Rattle.term_tree.specs.SmallForm.{IsSize, IndicesFit, ReadFits, WordFits, NestFits, IsSmall}
+use Rattle.small_form.specs.SmallForm.{IsSize, IndicesFit, ReadFits, WordFits, NestFits, IsSmall}
 use Rattle.term_tree.proofs.Folds.{fold-lit, fold-t_var, fold-index, fold-gen, fold-add, fold-mul}
 use Rattle.loop_lang.specs.declared.index.Iexp.{Iexp}
 use Rattle.loop_lang.specs.declared.word.Buf.TheVariants.{Input, Output}

@@ -6,7 +6,7 @@ use Rattle.term_tree.specs.declared.term.InputDecl.{InputDecl}
 use Rattle.term_tree.specs.declared.term.OutputDecl.{OutputDecl}
 use Rattle.term_tree.specs.declared.term.Module.{Module}
 use Rattle.term_tree.specs.Modules.{Allowed}
-use Rattle.term_tree.specs.SmallForm.{IsSmall}
+use Rattle.small_form.specs.SmallForm.{IsSmall}
 use Rattle.loop_lang.specs.declared.word.Buf.TheVariants.{Output}
 use Rattle.loop_lang.specs.declared.stmt.Stmt.TheVariants.{Seq, Zero}
 use Rattle.loop_lang.specs.Actions.{Puts}

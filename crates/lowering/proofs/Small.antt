@@ -14,8 +14,8 @@ use Rattle.term_tree.specs.Syntax.{index, gen, sum, guard, let_in, add, sub, mul
 use Rattle.term_tree.specs.Meaning.{count_of, extent}
 use Rattle.term_tree.specs.Modules.{extents_at, input_shapes}
 use Rattle.term_tree.specs.Shape.{Extents}
-use Rattle.term_tree.specs.SmallForm.{IsSize, IndicesFit, NestFits}
-use Rattle.term_tree.specs.SmallForm.{ReadFits as SmallRead, WordFits as SmallWord}
+use Rattle.small_form.specs.SmallForm.{IsSize, IndicesFit, NestFits}
+use Rattle.small_form.specs.SmallForm.{ReadFits as SmallRead, WordFits as SmallWord}
 use Rattle.term_tree.proofs.Folds.{fold-lit, fold-t_var, fold-index, fold-gen, fold-add, fold-mul}
 use Rattle.loop_lang.specs.declared.word.Buf.TheVariants.{Input, Output}
 use Rattle.loop_lang.specs.Reckoning.{Value, reckon}

@@ -16,7 +16,7 @@ use Rattle.affine_index.proofs.Values.{value-Size, value-Var, value-product}
 use Rattle.term_tree.specs.Meaning.{extent}
 use Rattle.term_tree.specs.Modules.{extents_at}
 use Rattle.term_tree.specs.Shaped.{word_count}
-use Rattle.term_tree.specs.SmallForm.{IsSize}
+use Rattle.small_form.specs.SmallForm.{IsSize}
 use Rattle.loop_lang.specs.declared.index.Iexp.TheVariants as index
 use Rattle.loop_lang.specs.Reckoning.{Value, reckon}
 use Rattle.loop_lang.specs.Form.{index_formed}

@@ -18,7 +18,7 @@ use Rattle.term_tree.specs.Modules.{IsWithin, Allowed, extents_at, input_shapes}
 use Rattle.term_tree.specs.Shape.{Extents, limited, shape_of, with_child, of_first, of_equal, of_words, each_fits, each_short, here}
 use Rattle.term_tree.specs.declared.cause.Cause.TheVariants.{RankTooLarge, CoefficientTooLarge, IndexTooLong}
 use Rattle.term_tree.specs.Goals.{extents_or_none}
-use Rattle.term_tree.specs.SmallForm.{largest_bound, IsSize, IndicesFit, ReadFits, WordFits, NestFits, IsSmall}
+use Rattle.small_form.specs.SmallForm.{largest_bound, IsSize, IndicesFit, ReadFits, WordFits, NestFits, IsSmall}
 use Rattle.term_tree.proofs.Folds.{fold-lit, fold-t_var, fold-index, fold-add, fold-mul}
 use Rattle.loop_lang.specs.declared.word.Buf.TheVariants.{Output}
 use Rattle.loop_lang.specs.Reckoning.{Value, reckon}

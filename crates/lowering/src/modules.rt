@@ -4,7 +4,7 @@ ghost use Rattle.std.specs.Prelude.{◌≡◌, ◌^◌, ◌<◌, ◌≤◌, ◌�
 ghost use Rattle.loop_lang.specs.Actions.{Puts};
 ghost use Rattle.loop_lang.specs.Form.{IsWellFormed};
 ghost use Rattle.lowering.specs.Correct.{HasLengths, IsCorrect};
-ghost use Rattle.term_tree.specs.SmallForm.{IsSmall};
+ghost use Rattle.small_form.specs.SmallForm.{IsSmall};
 ghost use Rattle.lowering.specs.Lowered.{length_tree, loops_of, sites_from, term_loops};
 ghost use Rattle.lowering.specs.Nest.{gens_of, nest_program, nest_site};
 

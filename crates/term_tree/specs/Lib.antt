@@ -7,6 +7,5 @@ pub mod Modules
 pub mod Scope
 pub mod Shape
 pub mod Shaped
-pub mod SmallForm
 pub mod Syntax
 pub mod Tensors

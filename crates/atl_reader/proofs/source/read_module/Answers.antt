@@ -1,6 +1,6 @@
 use Rattle.std.proofs.Common.{◌≡◌, ◌≤◌, true, length}
 use Rattle.term_tree.specs.Modules.{module_scoped, IsWithin}
-use Rattle.term_tree.specs.SmallForm.{IsSmall}
+use Rattle.small_form.specs.SmallForm.{IsSmall}
 use Rattle.atl_reader.proofs.WholeLaws.{found, only, refused, of_read}
 use Rattle.atl_reader.proofs.SmallLaws as laws
 use Rattle.atl_reader.proofs.source.read_module.Goals as goal

@@ -2,14 +2,13 @@
 -- products, with sizes small enough that no place leaves 64 bits.
 use Rattle.std.specs.Prelude.{◌≡◌, ℕ, zero, suc, ◌^◌, ◌<◌, ◌≤◌, List, [], ◌∷◌, length, get_or, All, Some, slice_get}
 use Rattle.affine_index.specs.declared.form.Items.{Items}
-use Rattle.affine_index.specs.declared.aff.Aff.{Aff}
 use Rattle.affine_index.specs.Form.{size_form, var_form}
-use Rattle.term_tree.specs.declared.term.Term.{Term, Lit, TVar, WordOf}
+use Rattle.term_tree.specs.declared.term.Term.{Term, Lit, TVar}
 use Rattle.term_tree.specs.declared.term.OutputDecl.{OutputDecl}
 use Rattle.term_tree.specs.declared.term.Module.{Module}
 use Rattle.term_tree.specs.Shape.{Extents}
 use Rattle.term_tree.specs.Modules.{input_shapes}
-use Rattle.term_tree.specs.Syntax.{index, gen, sum, guard, let_in, add, sub, mul, concat, flatten, split, transpose, trunc_l, trunc_r, pad_l, pad_r}
+use Rattle.term_tree.specs.Syntax.{index, gen, add, mul}
 
 -- the largest upper bound of a size, and how many extents an input and an output may have
 abbrev pub largest_bound : ℕ
