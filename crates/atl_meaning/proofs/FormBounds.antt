@@ -34,7 +34,6 @@ limited-is z h = grind arith
 up-size : (x : ℤ) (m : ℕ) → UpTo x m → unsigned_abs x ≤ m
 up-size x m u = omega (arith, ap unsigned_abs u.is, u.most)
 
-
 least : (m n : ℕ) → 1 ≤ m → 1 ≤ n → 1 ≤ m * n
 least m n p q = grind arith
 

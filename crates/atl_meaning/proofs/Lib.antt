@@ -2,10 +2,12 @@ pub mod CodeLaws
 pub mod DenotedLaws
 pub mod ExactLaws
 pub mod ExtentBounds
+pub mod ExtentCode
 pub mod FitLaws
 pub mod FormBounds
 pub mod ExtentScopes
 pub mod ListLaws
+pub mod MadeLaws
 pub mod ModuleLaws
 pub mod PlaceLaws
 pub mod ScopeLaws

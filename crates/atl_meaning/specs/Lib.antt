@@ -3,6 +3,7 @@ pub mod Denoted
 pub mod Exact
 pub mod Forms
 pub mod Lists
+pub mod Made
 pub mod Operations
 pub mod Reads
 pub mod Scopes

@@ -1,16 +1,16 @@
 //! The extents of a term at the sizes, each of which is below 2^64.
 
-ghost use Rattle.std.specs.Prelude.{◌≡◌, ◌+◌, ◌-◌, ◌*◌, ◌/◌, ◌^◌, ◌<◌, ◌∷◌, [], length, get_or, true, IfOk, IsTrue, OnOk};
-ghost use Rattle.term_tree.specs.Meaning.{extent, extents_of, head_of, tail_of};
+ghost use Rattle.std.specs.Prelude.{◌≡◌, ◌+◌, ◌-◌, ◌*◌, ◌/◌, ◌^◌, ◌<◌, ◌∷◌, [], length, get_or, true, IfOk, OnOk};
+ghost use Rattle.term_tree.specs.Meaning.{extents_of, head_of, tail_of};
 ghost use Rattle.atl_meaning.specs.Denoted.{denoted, fits_in, scope};
-ghost use Rattle.atl_meaning.specs.Exact.{counted, is_counted};
+ghost use Rattle.atl_meaning.specs.Exact.{counted};
+ghost use Rattle.atl_meaning.specs.Made.{IsMade};
 
 use crate::binding::Binding;
 use crate::reshape::{head_of, tail_of};
 use crate::stack::Stack;
 use crate::tensor::Tensor;
 use crate::values::extent;
-use affine_index::Aff;
 use sqlite_items::Items;
 use std::alloc::{AllocError, Global};
 use term_tree::Term;
@@ -43,60 +43,89 @@ fn of_variable(alloc: Global, bindings: &Stack<Binding>, var: u32) -> Result<Ite
     }
 }
 
-fn concatenated(alloc: Global, a: &[u64], b: &[u64]) -> Result<Items<u64>, AllocError>
-    requires { head_of a.now + head_of b.now < 2 ^ 64 }
-    ensures { IfOk result (λ ds. ds ≡ (head_of a.now + head_of b.now) ∷ tail_of a.now) }
+/// The extents of a row.
+fn of_row(alloc: Global, child: Result<Items<u64>, AllocError>) -> Result<Items<u64>, AllocError>
+    ensures { IsMade tail_of child result }
 {
-    in_front(alloc, head_of(a) + head_of(b), tail_of(a))
+    let d = child?;
+    let row = Items::from_slice(alloc, tail_of(d.as_slice()))?;
+    Ok(row)
 }
 
-fn flattened(alloc: Global, d: &[u64]) -> Result<Items<u64>, AllocError>
-    requires { head_of d.now * head_of (tail_of d.now) < 2 ^ 64 }
-    ensures { IfOk result (λ ds. ds ≡ (head_of d.now * head_of (tail_of d.now)) ∷ tail_of (tail_of d.now)) }
+/// The extents of so many rows.
+fn of_rows(
+    alloc: Global,
+    count: u64,
+    child: Result<Items<u64>, AllocError>,
+) -> Result<Items<u64>, AllocError>
+    ensures { IsMade (λ d. count ∷ d) child result }
 {
-    let rest = tail_of(d);
-    in_front(alloc, head_of(d) * head_of(rest), tail_of(rest))
+    let d = child?;
+    in_front(alloc, count, d.as_slice())
 }
 
-fn chunked(alloc: Global, k: u32, d: &[u64]) -> Result<Items<u64>, AllocError>
+/// The extents of the rows of the rows.
+fn flattened(alloc: Global, child: Result<Items<u64>, AllocError>) -> Result<Items<u64>, AllocError>
+    requires { IfOk child (λ d. head_of d * head_of (tail_of d) < 2 ^ 64) }
+    ensures { IsMade (λ d. (head_of d * head_of (tail_of d)) ∷ tail_of (tail_of d)) child result }
+{
+    let d = child?;
+    let rest = tail_of(d.as_slice());
+    in_front(alloc, head_of(d.as_slice()) * head_of(rest), tail_of(rest))
+}
+
+/// The extents of chunks of k rows.
+fn chunked(
+    alloc: Global,
+    k: u32,
+    child: Result<Items<u64>, AllocError>,
+) -> Result<Items<u64>, AllocError>
     requires { 0 < k }
-    ensures { IfOk result (λ ds. ds ≡ ((head_of d.now + k - 1) / k) ∷ k ∷ tail_of d.now) }
+    ensures { IsMade (λ d. ((head_of d + k - 1) / k) ∷ k ∷ tail_of d) child result }
 {
-    let count = chunk_count(head_of(d), k);
-    let rest = in_front(alloc, u64::from(k), tail_of(d))?;
+    let d = child?;
+    let count = chunk_count(head_of(d.as_slice()), k);
+    let rest = in_front(alloc, u64::from(k), tail_of(d.as_slice()))?;
     in_front(alloc, count, rest.as_slice())
 }
 
-fn transposed(alloc: Global, d: &[u64]) -> Result<Items<u64>, AllocError>
-    ensures { IfOk result (λ ds. ds ≡ head_of (tail_of d.now) ∷ head_of d.now ∷ tail_of (tail_of d.now)) }
+/// The extents of the columns.
+fn transposed(
+    alloc: Global,
+    child: Result<Items<u64>, AllocError>,
+) -> Result<Items<u64>, AllocError>
+    ensures { IsMade (λ d. head_of (tail_of d) ∷ head_of d ∷ tail_of (tail_of d)) child result }
 {
-    let rest = tail_of(d);
-    let others = in_front(alloc, head_of(d), tail_of(rest))?;
+    let d = child?;
+    let rest = tail_of(d.as_slice());
+    let others = in_front(alloc, head_of(d.as_slice()), tail_of(rest))?;
     in_front(alloc, head_of(rest), others.as_slice())
 }
 
-fn shortened(alloc: Global, sizes: &[u64], count: &Aff, d: &[u64]) -> Result<Items<u64>, AllocError>
-    requires { IsTrue (is_counted sizes.now count.now) }
-    ensures { IfOk result (λ ds. ds ≡ (head_of d.now - extent count.now sizes.now) ∷ tail_of d.now) }
+/// The extents without so many rows.
+fn shortened(
+    alloc: Global,
+    count: u64,
+    child: Result<Items<u64>, AllocError>,
+) -> Result<Items<u64>, AllocError>
+    ensures { IsMade (λ d. (head_of d - count) ∷ tail_of d) child result }
 {
-    in_front(
-        alloc,
-        head_of(d).saturating_sub(extent(count, sizes)),
-        tail_of(d),
-    )
+    let d = child?;
+    let left = head_of(d.as_slice()).saturating_sub(count);
+    in_front(alloc, left, tail_of(d.as_slice()))
 }
 
+/// The extents with so many more rows.
 fn lengthened(
     alloc: Global,
-    sizes: &[u64],
-    count: &Aff,
-    d: &[u64],
+    count: u64,
+    child: Result<Items<u64>, AllocError>,
 ) -> Result<Items<u64>, AllocError>
-    requires count { IsTrue (is_counted sizes.now count.now) }
-    requires room { head_of d.now + extent count.now sizes.now < 2 ^ 64 }
-    ensures { IfOk result (λ ds. ds ≡ (head_of d.now + extent count.now sizes.now) ∷ tail_of d.now) }
+    requires { IfOk child (λ d. head_of d + count < 2 ^ 64) }
+    ensures { IsMade (λ d. (head_of d + count) ∷ tail_of d) child result }
 {
-    in_front(alloc, head_of(d) + extent(count, sizes), tail_of(d))
+    let d = child?;
+    in_front(alloc, head_of(d.as_slice()) + count, tail_of(d.as_slice()))
 }
 
 /// The extents of a body under those of its definition.
@@ -138,7 +167,8 @@ fn followed_by(
     ensures bindings { OnOk result (bindings.new ≡ bindings.old) }
 {
     let second = extents(alloc, sizes, bindings, second)?;
-    concatenated(alloc, first.as_slice(), second.as_slice())
+    let rows = head_of(first.as_slice()) + head_of(second.as_slice());
+    in_front(alloc, rows, tail_of(first.as_slice()))
 }
 
 /// The extents of a term, whose lets are bound on the way. Cost: the nodes on the way to them.
@@ -168,41 +198,34 @@ pub fn extents(
             let d = extents(alloc, sizes, bindings, a.get())?;
             followed_by(alloc, sizes, bindings, d, b.get())
         }
-        Term::Index(e, _) => {
-            let d = extents(alloc, sizes, bindings, e.get())?;
-            Ok(Items::from_slice(alloc, tail_of(d.as_slice()))?)
-        }
-        Term::Gen(n, e) => {
-            let d = extents(alloc, sizes, bindings, e.get())?;
-            in_front(alloc, extent(n, sizes), d.as_slice())
-        }
-        Term::Flatten(e) => {
-            let d = extents(alloc, sizes, bindings, e.get())?;
-            flattened(alloc, d.as_slice())
-        }
-        Term::Split(k, e) => {
-            let d = extents(alloc, sizes, bindings, e.get())?;
-            chunked(alloc, *k, d.as_slice())
-        }
-        Term::Transpose(e) => {
-            let d = extents(alloc, sizes, bindings, e.get())?;
-            transposed(alloc, d.as_slice())
-        }
-        Term::TruncL(n, e) => {
-            let d = extents(alloc, sizes, bindings, e.get())?;
-            shortened(alloc, sizes, n, d.as_slice())
-        }
-        Term::TruncR(n, e) => {
-            let d = extents(alloc, sizes, bindings, e.get())?;
-            shortened(alloc, sizes, n, d.as_slice())
-        }
-        Term::PadL(n, e) => {
-            let d = extents(alloc, sizes, bindings, e.get())?;
-            lengthened(alloc, sizes, n, d.as_slice())
-        }
-        Term::PadR(n, e) => {
-            let d = extents(alloc, sizes, bindings, e.get())?;
-            lengthened(alloc, sizes, n, d.as_slice())
-        }
+        Term::Index(e, _) => of_row(alloc, extents(alloc, sizes, bindings, e.get())),
+        Term::Gen(n, e) => of_rows(
+            alloc,
+            extent(n, sizes),
+            extents(alloc, sizes, bindings, e.get()),
+        ),
+        Term::Flatten(e) => flattened(alloc, extents(alloc, sizes, bindings, e.get())),
+        Term::Split(k, e) => chunked(alloc, *k, extents(alloc, sizes, bindings, e.get())),
+        Term::Transpose(e) => transposed(alloc, extents(alloc, sizes, bindings, e.get())),
+        Term::TruncL(n, e) => shortened(
+            alloc,
+            extent(n, sizes),
+            extents(alloc, sizes, bindings, e.get()),
+        ),
+        Term::TruncR(n, e) => shortened(
+            alloc,
+            extent(n, sizes),
+            extents(alloc, sizes, bindings, e.get()),
+        ),
+        Term::PadL(n, e) => lengthened(
+            alloc,
+            extent(n, sizes),
+            extents(alloc, sizes, bindings, e.get()),
+        ),
+        Term::PadR(n, e) => lengthened(
+            alloc,
+            extent(n, sizes),
+            extents(alloc, sizes, bindings, e.get()),
+        ),
     }
 }

@@ -5,6 +5,8 @@ ghost use Rattle.std.specs.Prelude.{◌≡◌, ◌+◌, ◌<◌, ◌≤◌, ◌�
 ghost use Rattle.term_tree.specs.Shape.{shape_of};
 ghost use Rattle.term_tree.specs.Modules.{extents_scoped};
 ghost use Rattle.atl_meaning.specs.Forms.{chunked_forms, concatenated_forms, each_scoped, each_within, flattened_forms, lengthened_forms, shortened_forms, transposed_forms};
+ghost use Rattle.atl_meaning.specs.Lists.{rest_of};
+ghost use Rattle.atl_meaning.specs.Made.{IsMade};
 ghost use Rattle.atl_meaning.specs.Words.{at_least_one, first_of, is_large, largest_index};
 ghost use Rattle.atl_meaning.specs.Surveyed.{found_at, surveyed, under_found};
 ghost use Rattle.atl_meaning.specs.Scopes.{placed, sized};
@@ -43,20 +45,54 @@ fn at_node(
     }
 }
 
+/// A row of a child.
+fn row_node(
+    sizes: &[u64],
+    floor: &[u64],
+    large: bool,
+    child: Result<Found, AllocError>,
+) -> Result<Found, AllocError>
+    requires floor { floor.now ≡ at_least_one sizes.now }
+    requires scoped { IfOk child (λ f. extents_scoped (length sizes.now) f.extents ≡ true) }
+    ensures found { IsMade (λ f. found_at sizes.now (rest_of f.extents) large f.big) child result }
+    ensures scoped { IfOk result (λ found. extents_scoped (length sizes.now) found.extents ≡ true) }
+{
+    let child = child?;
+    let big = child.big;
+    Ok(at_node(sizes, floor, without_first(child.extents), large, big))
+}
+
+/// A node of the extents of its child.
+fn same_node(
+    sizes: &[u64],
+    floor: &[u64],
+    large: bool,
+    child: Result<Found, AllocError>,
+) -> Result<Found, AllocError>
+    requires floor { floor.now ≡ at_least_one sizes.now }
+    requires scoped { IfOk child (λ f. extents_scoped (length sizes.now) f.extents ≡ true) }
+    ensures found { IsMade (λ f. found_at sizes.now f.extents large f.big) child result }
+    ensures scoped { IfOk result (λ found. extents_scoped (length sizes.now) found.extents ≡ true) }
+{
+    let child = child?;
+    Ok(at_node(sizes, floor, child.extents, large, child.big))
+}
+
 /// So many rows of a child.
 fn rows_node(
     alloc: Global,
     sizes: &[u64],
     floor: &[u64],
     count: &Aff,
-    child: Found,
+    child: Result<Found, AllocError>,
 ) -> Result<Found, AllocError>
     requires floor { floor.now ≡ at_least_one sizes.now }
-    requires scoped { extents_scoped (length sizes.now) child.extents ≡ true }
+    requires scoped { IfOk child (λ f. extents_scoped (length sizes.now) f.extents ≡ true) }
     requires count { IsTrue (items_scoped (length sizes.now) 0 count.now) }
-    ensures found { IfOk result (λ found. found ≡ found_at sizes.now (count.now ∷ child.extents) (is_large (at_least_one sizes.now) [] count.now) child.big) }
+    ensures found { IsMade (λ f. found_at sizes.now (count.now ∷ f.extents) (is_large (at_least_one sizes.now) [] count.now) f.big) child result }
     ensures scoped { IfOk result (λ found. extents_scoped (length sizes.now) found.extents ≡ true) }
 {
+    let child = child?;
     let big = child.big;
     let extents = in_front(alloc, copy(alloc, count)?, child.extents)?;
     Ok(at_node(sizes, floor, extents, is_large(count, floor, &[]), big))
@@ -67,14 +103,15 @@ fn flattened_node(
     alloc: Global,
     sizes: &[u64],
     floor: &[u64],
-    child: Found,
+    child: Result<Found, AllocError>,
 ) -> Result<Found, AllocError>
     requires floor { floor.now ≡ at_least_one sizes.now }
-    requires scoped { extents_scoped (length sizes.now) child.extents ≡ true }
-    requires within { each_within (flattened_forms child.extents) ≡ true }
-    ensures found { IfOk result (λ found. found ≡ found_at sizes.now (flattened_forms child.extents) false child.big) }
+    requires scoped { IfOk child (λ f. extents_scoped (length sizes.now) f.extents ≡ true) }
+    requires within { IfOk child (λ f. each_within (flattened_forms f.extents) ≡ true) }
+    ensures found { IsMade (λ f. found_at sizes.now (flattened_forms f.extents) false f.big) child result }
     ensures scoped { IfOk result (λ found. extents_scoped (length sizes.now) found.extents ≡ true) }
 {
+    let child = child?;
     let big = child.big;
     let extents = flattened(alloc, child.extents)?;
     Ok(at_node(sizes, floor, extents, false, big))
@@ -86,16 +123,17 @@ fn chunked_node(
     sizes: &[u64],
     floor: &[u64],
     k: u32,
-    child: Found,
+    child: Result<Found, AllocError>,
 ) -> Result<Found, AllocError>
     requires floor { floor.now ≡ at_least_one sizes.now }
-    requires scoped { extents_scoped (length sizes.now) child.extents ≡ true }
+    requires scoped { IfOk child (λ f. extents_scoped (length sizes.now) f.extents ≡ true) }
     requires positive { 0 < k }
     requires limit { k ≤ 2147483647 }
-    requires within { each_within (chunked_forms k child.extents) ≡ true }
-    ensures found { IfOk result (λ found. found ≡ found_at sizes.now (chunked_forms k child.extents) false child.big) }
+    requires within { IfOk child (λ f. each_within (chunked_forms k f.extents) ≡ true) }
+    ensures found { IsMade (λ f. found_at sizes.now (chunked_forms k f.extents) false f.big) child result }
     ensures scoped { IfOk result (λ found. extents_scoped (length sizes.now) found.extents ≡ true) }
 {
+    let child = child?;
     let big = child.big;
     let extents = chunked(alloc, k, child.extents)?;
     Ok(at_node(sizes, floor, extents, false, big))
@@ -106,13 +144,14 @@ fn transposed_node(
     alloc: Global,
     sizes: &[u64],
     floor: &[u64],
-    child: Found,
+    child: Result<Found, AllocError>,
 ) -> Result<Found, AllocError>
     requires floor { floor.now ≡ at_least_one sizes.now }
-    requires scoped { extents_scoped (length sizes.now) child.extents ≡ true }
-    ensures found { IfOk result (λ found. found ≡ found_at sizes.now (transposed_forms child.extents) false child.big) }
+    requires scoped { IfOk child (λ f. extents_scoped (length sizes.now) f.extents ≡ true) }
+    ensures found { IsMade (λ f. found_at sizes.now (transposed_forms f.extents) false f.big) child result }
     ensures scoped { IfOk result (λ found. extents_scoped (length sizes.now) found.extents ≡ true) }
 {
+    let child = child?;
     let big = child.big;
     let extents = transposed(alloc, child.extents)?;
     Ok(at_node(sizes, floor, extents, false, big))
@@ -124,15 +163,16 @@ fn shortened_node(
     sizes: &[u64],
     floor: &[u64],
     count: &Aff,
-    child: Found,
+    child: Result<Found, AllocError>,
 ) -> Result<Found, AllocError>
     requires floor { floor.now ≡ at_least_one sizes.now }
-    requires scoped { extents_scoped (length sizes.now) child.extents ≡ true }
+    requires scoped { IfOk child (λ f. extents_scoped (length sizes.now) f.extents ≡ true) }
     requires count { IsTrue (items_scoped (length sizes.now) 0 count.now) }
-    requires within { each_within (shortened_forms count.now child.extents) ≡ true }
-    ensures found { IfOk result (λ found. found ≡ found_at sizes.now (shortened_forms count.now child.extents) (is_large (at_least_one sizes.now) [] count.now) child.big) }
+    requires within { IfOk child (λ f. each_within (shortened_forms count.now f.extents) ≡ true) }
+    ensures found { IsMade (λ f. found_at sizes.now (shortened_forms count.now f.extents) (is_large (at_least_one sizes.now) [] count.now) f.big) child result }
     ensures scoped { IfOk result (λ found. extents_scoped (length sizes.now) found.extents ≡ true) }
 {
+    let child = child?;
     let big = child.big;
     let extents = shortened(alloc, count, child.extents)?;
     Ok(at_node(sizes, floor, extents, is_large(count, floor, &[]), big))
@@ -144,15 +184,16 @@ fn lengthened_node(
     sizes: &[u64],
     floor: &[u64],
     count: &Aff,
-    child: Found,
+    child: Result<Found, AllocError>,
 ) -> Result<Found, AllocError>
     requires floor { floor.now ≡ at_least_one sizes.now }
-    requires scoped { extents_scoped (length sizes.now) child.extents ≡ true }
+    requires scoped { IfOk child (λ f. extents_scoped (length sizes.now) f.extents ≡ true) }
     requires count { IsTrue (items_scoped (length sizes.now) 0 count.now) }
-    requires within { each_within (lengthened_forms count.now child.extents) ≡ true }
-    ensures found { IfOk result (λ found. found ≡ found_at sizes.now (lengthened_forms count.now child.extents) (is_large (at_least_one sizes.now) [] count.now) child.big) }
+    requires within { IfOk child (λ f. each_within (lengthened_forms count.now f.extents) ≡ true) }
+    ensures found { IsMade (λ f. found_at sizes.now (lengthened_forms count.now f.extents) (is_large (at_least_one sizes.now) [] count.now) f.big) child result }
     ensures scoped { IfOk result (λ found. extents_scoped (length sizes.now) found.extents ≡ true) }
 {
+    let child = child?;
     let big = child.big;
     let extents = lengthened(alloc, count, child.extents)?;
     Ok(at_node(sizes, floor, extents, is_large(count, floor, &[]), big))
@@ -349,28 +390,35 @@ pub fn survey(
             Ok(at_node(sizes, floor, Items::new(alloc), large, None))
         }
         Term::Index(e, x) => {
-            let child = survey(alloc, sizes, floor, vars, shapes, e.get())?;
             let large = is_large(x, floor, vars.as_slice());
-            Ok(at_node(sizes, floor, without_first(child.extents), large, child.big))
-        }
-        Term::Gen(n, e) => {
-            let child = under_binder(alloc, sizes, floor, vars, shapes, n, e.get())?;
-            rows_node(alloc, sizes, floor, n, child)
-        }
-        Term::Sum(n, e) => {
-            let child = under_binder(alloc, sizes, floor, vars, shapes, n, e.get())?;
-            Ok(at_node(
+            row_node(
                 sizes,
                 floor,
-                child.extents,
-                is_large(n, floor, &[]),
-                child.big,
-            ))
+                large,
+                survey(alloc, sizes, floor, vars, shapes, e.get()),
+            )
         }
+        Term::Gen(n, e) => rows_node(
+            alloc,
+            sizes,
+            floor,
+            n,
+            under_binder(alloc, sizes, floor, vars, shapes, n, e.get()),
+        ),
+        Term::Sum(n, e) => same_node(
+            sizes,
+            floor,
+            is_large(n, floor, &[]),
+            under_binder(alloc, sizes, floor, vars, shapes, n, e.get()),
+        ),
         Term::Guard(c, e) => {
-            let child = survey(alloc, sizes, floor, vars, shapes, e.get())?;
             let large = any_large_comparison(c, floor, vars.as_slice());
-            Ok(at_node(sizes, floor, child.extents, large, child.big))
+            same_node(
+                sizes,
+                floor,
+                large,
+                survey(alloc, sizes, floor, vars, shapes, e.get()),
+            )
         }
         Term::Let(a, b) => {
             let first = survey(alloc, sizes, floor, vars, shapes, a.get())?;
@@ -392,33 +440,52 @@ pub fn survey(
             let first = survey(alloc, sizes, floor, vars, shapes, a.get())?;
             concatenated_node(alloc, sizes, floor, vars, shapes, b.get(), first)
         }
-        Term::Flatten(e) => {
-            let child = survey(alloc, sizes, floor, vars, shapes, e.get())?;
-            flattened_node(alloc, sizes, floor, child)
-        }
-        Term::Split(k, e) => {
-            let child = survey(alloc, sizes, floor, vars, shapes, e.get())?;
-            chunked_node(alloc, sizes, floor, *k, child)
-        }
-        Term::Transpose(e) => {
-            let child = survey(alloc, sizes, floor, vars, shapes, e.get())?;
-            transposed_node(alloc, sizes, floor, child)
-        }
-        Term::TruncL(n, e) => {
-            let child = survey(alloc, sizes, floor, vars, shapes, e.get())?;
-            shortened_node(alloc, sizes, floor, n, child)
-        }
-        Term::TruncR(n, e) => {
-            let child = survey(alloc, sizes, floor, vars, shapes, e.get())?;
-            shortened_node(alloc, sizes, floor, n, child)
-        }
-        Term::PadL(n, e) => {
-            let child = survey(alloc, sizes, floor, vars, shapes, e.get())?;
-            lengthened_node(alloc, sizes, floor, n, child)
-        }
-        Term::PadR(n, e) => {
-            let child = survey(alloc, sizes, floor, vars, shapes, e.get())?;
-            lengthened_node(alloc, sizes, floor, n, child)
-        }
+        Term::Flatten(e) => flattened_node(
+            alloc,
+            sizes,
+            floor,
+            survey(alloc, sizes, floor, vars, shapes, e.get()),
+        ),
+        Term::Split(k, e) => chunked_node(
+            alloc,
+            sizes,
+            floor,
+            *k,
+            survey(alloc, sizes, floor, vars, shapes, e.get()),
+        ),
+        Term::Transpose(e) => transposed_node(
+            alloc,
+            sizes,
+            floor,
+            survey(alloc, sizes, floor, vars, shapes, e.get()),
+        ),
+        Term::TruncL(n, e) => shortened_node(
+            alloc,
+            sizes,
+            floor,
+            n,
+            survey(alloc, sizes, floor, vars, shapes, e.get()),
+        ),
+        Term::TruncR(n, e) => shortened_node(
+            alloc,
+            sizes,
+            floor,
+            n,
+            survey(alloc, sizes, floor, vars, shapes, e.get()),
+        ),
+        Term::PadL(n, e) => lengthened_node(
+            alloc,
+            sizes,
+            floor,
+            n,
+            survey(alloc, sizes, floor, vars, shapes, e.get()),
+        ),
+        Term::PadR(n, e) => lengthened_node(
+            alloc,
+            sizes,
+            floor,
+            n,
+            survey(alloc, sizes, floor, vars, shapes, e.get()),
+        ),
     }
 }

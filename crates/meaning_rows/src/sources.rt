@@ -90,21 +90,24 @@ fn number(alloc: Global, number: i32) -> Result<Aff, AffRefusal> {
     Aff::literal(alloc, i64::from(number))
 }
 
+fn square(alloc: Global, root: i32) -> Result<Aff, AffRefusal> {
+    product(alloc, number(alloc, root), number(alloc, root))
+}
+
+/// `N - M`
+fn rest(alloc: Global) -> Result<Aff, AffRefusal> {
+    difference(alloc, Aff::size(alloc, 0), Aff::size(alloc, 1))
+}
+
 fn formed(alloc: Global, form: Form) -> Result<Aff, AffRefusal> {
     match form {
         Form::Number(z) => number(alloc, z),
         Form::Size(s) => Aff::size(alloc, s),
         Form::Var(v) => Aff::var(alloc, v),
-        Form::Square(z, s) => {
-            let square = product(alloc, number(alloc, z), number(alloc, z));
-            product(alloc, square, Aff::size(alloc, s))
-        }
+        Form::Square(z, s) => product(alloc, square(alloc, z), Aff::size(alloc, s)),
         Form::Before => difference(alloc, Aff::var(alloc, 0), number(alloc, 1)),
         Form::Window => sum(alloc, Aff::var(alloc, 1), Aff::var(alloc, 0)),
-        Form::Rest(z) => {
-            let rest = difference(alloc, Aff::size(alloc, 0), Aff::size(alloc, 1));
-            sum(alloc, rest, number(alloc, z))
-        }
+        Form::Rest(z) => sum(alloc, rest(alloc), number(alloc, z)),
     }
 }
 

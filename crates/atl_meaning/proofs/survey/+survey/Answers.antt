@@ -10,6 +10,7 @@ use Rattle.atl_meaning.specs.Scopes.{placed, sized}
 use Rattle.atl_meaning.specs.Surveyed.{found_at, surveyed, under_found}
 use Rattle.atl_meaning.specs.Words.{any_large_comparison, at_least_one, first_of, is_large, largest_index}
 use Rattle.atl_meaning.proofs.CodeLaws.{placed-Add, placed-Concat, placed-Gen, placed-Let, placed-Mul, placed-PadL, placed-PadR, placed-Sub, placed-Sum, placed-TruncL, placed-TruncR, sized-Add, sized-Concat, sized-Gen, sized-Let, sized-Mul, sized-PadL, sized-PadR, sized-Split, sized-Sub, sized-Sum, sized-TruncL, sized-TruncR}
+use Rattle.atl_meaning.proofs.MadeLaws.{below_fits, made-kept, made-value}
 use Rattle.atl_meaning.proofs.ShapeCode.{shape-Index, shape-Gen, shape-Sum, shape-Guard, shape-Let, shape-Add, shape-Sub, shape-Mul, shape-Concat, shape-Flatten, shape-Split, shape-Transpose, shape-TruncL, shape-TruncR, shape-PadL, shape-PadR}
 use Rattle.atl_meaning.proofs.SurveyCode.{placed-Flatten, placed-Guard, placed-Index, placed-Split, placed-Transpose, sized-Flatten, sized-Guard, sized-Index, sized-Transpose, surveyed-Add, surveyed-Concat, surveyed-Flatten, surveyed-Gen, surveyed-Guard, surveyed-Index, surveyed-Let, surveyed-Mul, surveyed-PadL, surveyed-PadR, surveyed-Split, surveyed-Sub, surveyed-Sum, surveyed-Transpose, surveyed-TruncL, surveyed-TruncR, surveyed-WordOf}
 use Rattle.atl_meaning.proofs.survey.+survey.Goals as goal
@@ -197,113 +198,214 @@ survey-concatenated_node-requires t c =
     let later = subst (λ (r : List ℕ). placed k c.in-Concat.b (length r) ≡ true) (sym vars) p.1 in
     (search (rules, the_lemmas), (c.requires.floor, (subst (λ (e : Term). sized k e ≡ true) (sym c.get-in-Concat-2.ensures) s.1, (subst (λ (e : Term). placed k e (length c.survey-in-Concat.new.vars) ≡ true) (sym c.get-in-Concat-2.ensures) later, (subst (λ (ts : List Extents). each_scoped k ts ≡ true) (sym shapes) c.requires.shapes, (c.in_ok-first-in-Concat.ensures.scoped, (subst (λ (x : Shaped). IsOk x) (sym (λ i. shape_of (c.get-in-Concat-2.ensures i) (shapes i))) h.1, (λ i. each_within (concatenated_forms ((c.in_ok-first-in-Concat.ensures.found ∙ ap (λ e. surveyed c.args.sizes.now e c.args.vars.now c.args.shapes.now) c.get-in-Concat.ensures) i).extents (surveyed c.args.sizes.now (c.get-in-Concat-2.ensures i) (vars i) (shapes i)).extents)) ∙ h.2)))))))
 
-pub survey-returns-in_ok-child-in-Index-clause-found : goal.survey-returns-in_ok-child-in-Index-clause-found
-survey-returns-in_ok-child-in-Index-clause-found t c =
+pub survey-returns-in-Index-clause-found : goal.survey-returns-in-Index-clause-found
+survey-returns-in-Index-clause-found t c =
     let s = c.args.sizes.now in
     let vars = c.args.vars.now in
     let ts = c.args.shapes.now in
-    let child = c.in_ok-child-in-Index.ensures.found ∙ ap (λ e. surveyed s e vars ts) c.get.ensures in
-    let whole = surveyed-Index s vars ts c.args.term.now c.in-Index.e c.in-Index.x c.in-Index.is in
-    let seen : c.as_slice-in-Index.result.now ≡ vars = c.as_slice-in-Index.ensures ∙ c.in_ok-child-in-Index.ensures.vars in
-    let large : c.is_large-large-in-Index.result ≡ is_large (at_least_one s) vars c.in-Index.x = c.is_large-large-in-Index.ensures ∙ (λ i. is_large (c.requires.floor i) (seen i) c.in-Index.x) in
-    let here = ap (λ ns. found_at s ns c.is_large-large-in-Index.result c.in_ok-child-in-Index.child.big) c.without_first.ensures
-    ∙ ap (λ large. found_at s (rest_of c.in_ok-child-in-Index.child.extents) large c.in_ok-child-in-Index.child.big) large in
-    c.at_node-in-Index.ensures.found ∙ here ∙ ap (λ f. found_at s (rest_of f.extents) (is_large (at_least_one s) vars c.in-Index.x) f.big) child ∙ sym whole
+    let child : IfOk c.survey.result (λ f. f ≡ surveyed s c.in-Index.e vars ts) = subst (λ (e : Term). IfOk c.survey.result (λ f. f ≡ surveyed s e vars ts)) c.get.ensures c.survey.ensures.found in
+    subst (λ (f : Found). IfOk c.row_node.result (λ found. found ≡ f)) (ap (λ large. found_at s (rest_of (surveyed s c.in-Index.e vars ts).extents) large (surveyed s c.in-Index.e vars ts).big) (c.is_large-large-in-Index.ensures ∙ (λ i. is_large (c.requires.floor i) (c.as_slice-in-Index.ensures i) c.in-Index.x)) ∙ sym (surveyed-Index s vars ts c.args.term.now c.in-Index.e c.in-Index.x c.in-Index.is))
+    (made-value (λ f. found_at s (rest_of f.extents) c.is_large-large-in-Index.result f.big) c.survey.result c.row_node.result (surveyed s c.in-Index.e vars ts) c.row_node.ensures.found child)
 
-pub survey-returns-in_ok-child-in-Guard-clause-found : goal.survey-returns-in_ok-child-in-Guard-clause-found
-survey-returns-in_ok-child-in-Guard-clause-found t c =
+pub survey-returns-in-Index-clause-vars : goal.survey-returns-in-Index-clause-vars
+survey-returns-in-Index-clause-vars t c =
     let s = c.args.sizes.now in
-    let vars = c.args.vars.now in
-    let ts = c.args.shapes.now in
-    let child = c.in_ok-child-in-Guard.ensures.found ∙ ap (λ e. surveyed s e vars ts) c.get-in-Guard.ensures in
-    let whole = surveyed-Guard s vars ts c.args.term.now c.in-Guard.c c.in-Guard.e c.in-Guard.is in
-    let seen : c.as_slice-in-Guard.result.now ≡ vars = c.as_slice-in-Guard.ensures ∙ c.in_ok-child-in-Guard.ensures.vars in
-    let large : c.any_large_comparison-large.result ≡ any_large_comparison (at_least_one s) vars c.in-Guard.c.all = c.any_large_comparison-large.ensures ∙ (λ i. any_large_comparison (c.requires.floor i) (seen i) c.in-Guard.c.all) in
-    let here = ap (λ large. found_at s c.in_ok-child-in-Guard.child.extents large c.in_ok-child-in-Guard.child.big) large in
-    c.at_node-in-Guard.ensures.found ∙ here ∙ ap (λ f. found_at s f.extents (any_large_comparison (at_least_one s) vars c.in-Guard.c.all) f.big) child ∙ sym whole
+    made-kept (λ f. found_at s (rest_of f.extents) c.is_large-large-in-Index.result f.big) (c.survey.new.vars ≡ c.args.vars.now) c.survey.result c.row_node.result c.row_node.ensures.found c.survey.ensures.vars
 
-pub survey-returns-in_ok-child-in-Gen-clause-found : goal.survey-returns-in_ok-child-in-Gen-clause-found
-survey-returns-in_ok-child-in-Gen-clause-found t c =
+pub survey-returns-in-Index-clause-shapes : goal.survey-returns-in-Index-clause-shapes
+survey-returns-in-Index-clause-shapes t c =
     let s = c.args.sizes.now in
-    let vars = c.args.vars.now in
-    let ts = c.args.shapes.now in
-    let child = c.in_ok-child-in-Gen.ensures.found ∙ ap (λ e. surveyed s e (largest_index s c.in-Gen.n ∷ vars) ts) c.get-in-Gen.ensures in
-    let whole = surveyed-Gen s vars ts c.args.term.now c.in-Gen.n c.in-Gen.e c.in-Gen.is in
-    subst (λ (f : Found). IfOk c.rows_node.result (λ found. found ≡ f)) (ap (λ f. found_at s (c.in-Gen.n ∷ f.extents) (is_large (at_least_one s) [] c.in-Gen.n) f.big) child ∙ sym whole) c.rows_node.ensures.found
+    made-kept (λ f. found_at s (rest_of f.extents) c.is_large-large-in-Index.result f.big) (c.survey.new.shapes ≡ c.args.shapes.now) c.survey.result c.row_node.result c.row_node.ensures.found c.survey.ensures.shapes
 
-pub survey-returns-in_ok-child-in-Sum-clause-found : goal.survey-returns-in_ok-child-in-Sum-clause-found
-survey-returns-in_ok-child-in-Sum-clause-found t c =
+pub survey-returns-in-Guard-clause-found : goal.survey-returns-in-Guard-clause-found
+survey-returns-in-Guard-clause-found t c =
     let s = c.args.sizes.now in
     let vars = c.args.vars.now in
     let ts = c.args.shapes.now in
-    let child = c.in_ok-child-in-Sum.ensures.found ∙ ap (λ e. surveyed s e (largest_index s c.in-Sum.n ∷ vars) ts) c.get-in-Sum.ensures in
-    let whole = surveyed-Sum s vars ts c.args.term.now c.in-Sum.n c.in-Sum.e c.in-Sum.is in
-    let large = c.is_large.ensures ∙ ap (λ floor. is_large floor [] c.in-Sum.n) c.requires.floor in
-    let here = ap (λ large. found_at s c.in_ok-child-in-Sum.child.extents large c.in_ok-child-in-Sum.child.big) large in
-    c.at_node-in-Sum.ensures.found ∙ here ∙ ap (λ f. found_at s f.extents (is_large (at_least_one s) [] c.in-Sum.n) f.big) child ∙ sym whole
+    let child : IfOk c.survey-in-Guard.result (λ f. f ≡ surveyed s c.in-Guard.e vars ts) = subst (λ (e : Term). IfOk c.survey-in-Guard.result (λ f. f ≡ surveyed s e vars ts)) c.get-in-Guard.ensures c.survey-in-Guard.ensures.found in
+    subst (λ (f : Found). IfOk c.same_node-in-Guard.result (λ found. found ≡ f)) (ap (λ large. found_at s (surveyed s c.in-Guard.e vars ts).extents large (surveyed s c.in-Guard.e vars ts).big) (c.any_large_comparison-large.ensures ∙ (λ i. any_large_comparison (c.requires.floor i) (c.as_slice-in-Guard.ensures i) c.in-Guard.c.all)) ∙ sym (surveyed-Guard s vars ts c.args.term.now c.in-Guard.c c.in-Guard.e c.in-Guard.is))
+    (made-value (λ f. found_at s f.extents c.any_large_comparison-large.result f.big) c.survey-in-Guard.result c.same_node-in-Guard.result (surveyed s c.in-Guard.e vars ts) c.same_node-in-Guard.ensures.found child)
 
-pub survey-returns-in_ok-child-in-Flatten-clause-found : goal.survey-returns-in_ok-child-in-Flatten-clause-found
-survey-returns-in_ok-child-in-Flatten-clause-found t c =
+pub survey-returns-in-Guard-clause-vars : goal.survey-returns-in-Guard-clause-vars
+survey-returns-in-Guard-clause-vars t c =
     let s = c.args.sizes.now in
-    let vars = c.args.vars.now in
-    let ts = c.args.shapes.now in
-    let child = c.in_ok-child-in-Flatten.ensures.found ∙ ap (λ e. surveyed s e vars ts) c.get-in-Flatten.ensures in
-    let whole = surveyed-Flatten s vars ts c.args.term.now c.in-Flatten.e c.in-Flatten.is in
-    subst (λ (f : Found). IfOk c.flattened_node.result (λ found. found ≡ f)) (ap (λ f. found_at s (flattened_forms f.extents) false f.big) child ∙ sym whole) c.flattened_node.ensures.found
+    made-kept (λ f. found_at s f.extents c.any_large_comparison-large.result f.big) (c.survey-in-Guard.new.vars ≡ c.args.vars.now) c.survey-in-Guard.result c.same_node-in-Guard.result c.same_node-in-Guard.ensures.found c.survey-in-Guard.ensures.vars
 
-pub survey-returns-in_ok-child-in-Split-clause-found : goal.survey-returns-in_ok-child-in-Split-clause-found
-survey-returns-in_ok-child-in-Split-clause-found t c =
+pub survey-returns-in-Guard-clause-shapes : goal.survey-returns-in-Guard-clause-shapes
+survey-returns-in-Guard-clause-shapes t c =
     let s = c.args.sizes.now in
-    let vars = c.args.vars.now in
-    let ts = c.args.shapes.now in
-    let child = c.in_ok-child-in-Split.ensures.found ∙ ap (λ e. surveyed s e vars ts) c.get-in-Split.ensures in
-    let whole = surveyed-Split s vars ts c.args.term.now c.in-Split.k c.in-Split.e c.in-Split.is in
-    subst (λ (f : Found). IfOk c.chunked_node.result (λ found. found ≡ f)) (ap (λ f. found_at s (chunked_forms c.in-Split.k f.extents) false f.big) child ∙ sym whole) c.chunked_node.ensures.found
+    made-kept (λ f. found_at s f.extents c.any_large_comparison-large.result f.big) (c.survey-in-Guard.new.shapes ≡ c.args.shapes.now) c.survey-in-Guard.result c.same_node-in-Guard.result c.same_node-in-Guard.ensures.found c.survey-in-Guard.ensures.shapes
 
-pub survey-returns-in_ok-child-in-Transpose-clause-found : goal.survey-returns-in_ok-child-in-Transpose-clause-found
-survey-returns-in_ok-child-in-Transpose-clause-found t c =
+pub survey-returns-in-Gen-clause-found : goal.survey-returns-in-Gen-clause-found
+survey-returns-in-Gen-clause-found t c =
     let s = c.args.sizes.now in
     let vars = c.args.vars.now in
     let ts = c.args.shapes.now in
-    let child = c.in_ok-child-in-Transpose.ensures.found ∙ ap (λ e. surveyed s e vars ts) c.get-in-Transpose.ensures in
-    let whole = surveyed-Transpose s vars ts c.args.term.now c.in-Transpose.e c.in-Transpose.is in
-    subst (λ (f : Found). IfOk c.transposed_node.result (λ found. found ≡ f)) (ap (λ f. found_at s (transposed_forms f.extents) false f.big) child ∙ sym whole) c.transposed_node.ensures.found
+    let child : IfOk c.under_binder.result (λ f. f ≡ surveyed s c.in-Gen.e (largest_index s c.in-Gen.n ∷ vars) ts) = subst (λ (e : Term). IfOk c.under_binder.result (λ f. f ≡ surveyed s e (largest_index s c.in-Gen.n ∷ vars) ts)) c.get-in-Gen.ensures c.under_binder.ensures.found in
+    subst (λ (f : Found). IfOk c.rows_node.result (λ found. found ≡ f)) (sym (surveyed-Gen s vars ts c.args.term.now c.in-Gen.n c.in-Gen.e c.in-Gen.is))
+    (made-value (λ f. found_at s (c.in-Gen.n ∷ f.extents) (is_large (at_least_one s) [] c.in-Gen.n) f.big) c.under_binder.result c.rows_node.result (surveyed s c.in-Gen.e (largest_index s c.in-Gen.n ∷ vars) ts) c.rows_node.ensures.found child)
 
-pub survey-returns-in_ok-child-in-TruncL-clause-found : goal.survey-returns-in_ok-child-in-TruncL-clause-found
-survey-returns-in_ok-child-in-TruncL-clause-found t c =
+pub survey-returns-in-Gen-clause-vars : goal.survey-returns-in-Gen-clause-vars
+survey-returns-in-Gen-clause-vars t c =
     let s = c.args.sizes.now in
-    let vars = c.args.vars.now in
-    let ts = c.args.shapes.now in
-    let child = c.in_ok-child-in-TruncL.ensures.found ∙ ap (λ e. surveyed s e vars ts) c.get-in-TruncL.ensures in
-    let whole = surveyed-TruncL s vars ts c.args.term.now c.in-TruncL.n c.in-TruncL.e c.in-TruncL.is in
-    subst (λ (f : Found). IfOk c.shortened_node.result (λ found. found ≡ f)) (ap (λ f. found_at s (shortened_forms c.in-TruncL.n f.extents) (is_large (at_least_one s) [] c.in-TruncL.n) f.big) child ∙ sym whole) c.shortened_node.ensures.found
+    made-kept (λ f. found_at s (c.in-Gen.n ∷ f.extents) (is_large (at_least_one s) [] c.in-Gen.n) f.big) (c.under_binder.new.vars ≡ c.args.vars.now) c.under_binder.result c.rows_node.result c.rows_node.ensures.found c.under_binder.ensures.vars
 
-pub survey-returns-in_ok-child-in-TruncR-clause-found : goal.survey-returns-in_ok-child-in-TruncR-clause-found
-survey-returns-in_ok-child-in-TruncR-clause-found t c =
+pub survey-returns-in-Gen-clause-shapes : goal.survey-returns-in-Gen-clause-shapes
+survey-returns-in-Gen-clause-shapes t c =
     let s = c.args.sizes.now in
-    let vars = c.args.vars.now in
-    let ts = c.args.shapes.now in
-    let child = c.in_ok-child-in-TruncR.ensures.found ∙ ap (λ e. surveyed s e vars ts) c.get-in-TruncR.ensures in
-    let whole = surveyed-TruncR s vars ts c.args.term.now c.in-TruncR.n c.in-TruncR.e c.in-TruncR.is in
-    subst (λ (f : Found). IfOk c.shortened_node-in-TruncR.result (λ found. found ≡ f)) (ap (λ f. found_at s (shortened_forms c.in-TruncR.n f.extents) (is_large (at_least_one s) [] c.in-TruncR.n) f.big) child ∙ sym whole) c.shortened_node-in-TruncR.ensures.found
+    made-kept (λ f. found_at s (c.in-Gen.n ∷ f.extents) (is_large (at_least_one s) [] c.in-Gen.n) f.big) (c.under_binder.new.shapes ≡ c.args.shapes.now) c.under_binder.result c.rows_node.result c.rows_node.ensures.found c.under_binder.ensures.shapes
 
-pub survey-returns-in_ok-child-in-PadL-clause-found : goal.survey-returns-in_ok-child-in-PadL-clause-found
-survey-returns-in_ok-child-in-PadL-clause-found t c =
+pub survey-returns-in-Sum-clause-found : goal.survey-returns-in-Sum-clause-found
+survey-returns-in-Sum-clause-found t c =
     let s = c.args.sizes.now in
     let vars = c.args.vars.now in
     let ts = c.args.shapes.now in
-    let child = c.in_ok-child-in-PadL.ensures.found ∙ ap (λ e. surveyed s e vars ts) c.get-in-PadL.ensures in
-    let whole = surveyed-PadL s vars ts c.args.term.now c.in-PadL.n c.in-PadL.e c.in-PadL.is in
-    subst (λ (f : Found). IfOk c.lengthened_node.result (λ found. found ≡ f)) (ap (λ f. found_at s (lengthened_forms c.in-PadL.n f.extents) (is_large (at_least_one s) [] c.in-PadL.n) f.big) child ∙ sym whole) c.lengthened_node.ensures.found
+    let child : IfOk c.under_binder-in-Sum.result (λ f. f ≡ surveyed s c.in-Sum.e (largest_index s c.in-Sum.n ∷ vars) ts) = subst (λ (e : Term). IfOk c.under_binder-in-Sum.result (λ f. f ≡ surveyed s e (largest_index s c.in-Sum.n ∷ vars) ts)) c.get-in-Sum.ensures c.under_binder-in-Sum.ensures.found in
+    subst (λ (f : Found). IfOk c.same_node.result (λ found. found ≡ f)) (ap (λ large. found_at s (surveyed s c.in-Sum.e (largest_index s c.in-Sum.n ∷ vars) ts).extents large (surveyed s c.in-Sum.e (largest_index s c.in-Sum.n ∷ vars) ts).big) (c.is_large.ensures ∙ ap (λ floor. is_large floor [] c.in-Sum.n) c.requires.floor) ∙ sym (surveyed-Sum s vars ts c.args.term.now c.in-Sum.n c.in-Sum.e c.in-Sum.is))
+    (made-value (λ f. found_at s f.extents c.is_large.result f.big) c.under_binder-in-Sum.result c.same_node.result (surveyed s c.in-Sum.e (largest_index s c.in-Sum.n ∷ vars) ts) c.same_node.ensures.found child)
 
-pub survey-returns-in_ok-child-in-PadR-clause-found : goal.survey-returns-in_ok-child-in-PadR-clause-found
-survey-returns-in_ok-child-in-PadR-clause-found t c =
+pub survey-returns-in-Sum-clause-vars : goal.survey-returns-in-Sum-clause-vars
+survey-returns-in-Sum-clause-vars t c =
+    let s = c.args.sizes.now in
+    made-kept (λ f. found_at s f.extents c.is_large.result f.big) (c.under_binder-in-Sum.new.vars ≡ c.args.vars.now) c.under_binder-in-Sum.result c.same_node.result c.same_node.ensures.found c.under_binder-in-Sum.ensures.vars
+
+pub survey-returns-in-Sum-clause-shapes : goal.survey-returns-in-Sum-clause-shapes
+survey-returns-in-Sum-clause-shapes t c =
+    let s = c.args.sizes.now in
+    made-kept (λ f. found_at s f.extents c.is_large.result f.big) (c.under_binder-in-Sum.new.shapes ≡ c.args.shapes.now) c.under_binder-in-Sum.result c.same_node.result c.same_node.ensures.found c.under_binder-in-Sum.ensures.shapes
+
+pub survey-returns-in-Flatten-clause-found : goal.survey-returns-in-Flatten-clause-found
+survey-returns-in-Flatten-clause-found t c =
     let s = c.args.sizes.now in
     let vars = c.args.vars.now in
     let ts = c.args.shapes.now in
-    let child = c.in_ok-child-in-PadR.ensures.found ∙ ap (λ e. surveyed s e vars ts) c.get-in-PadR.ensures in
-    let whole = surveyed-PadR s vars ts c.args.term.now c.in-PadR.n c.in-PadR.e c.in-PadR.is in
-    subst (λ (f : Found). IfOk c.lengthened_node-in-PadR.result (λ found. found ≡ f)) (ap (λ f. found_at s (lengthened_forms c.in-PadR.n f.extents) (is_large (at_least_one s) [] c.in-PadR.n) f.big) child ∙ sym whole) c.lengthened_node-in-PadR.ensures.found
+    let child : IfOk c.survey-in-Flatten.result (λ f. f ≡ surveyed s c.in-Flatten.e vars ts) = subst (λ (e : Term). IfOk c.survey-in-Flatten.result (λ f. f ≡ surveyed s e vars ts)) c.get-in-Flatten.ensures c.survey-in-Flatten.ensures.found in
+    subst (λ (f : Found). IfOk c.flattened_node.result (λ found. found ≡ f)) (sym (surveyed-Flatten s vars ts c.args.term.now c.in-Flatten.e c.in-Flatten.is))
+    (made-value (λ f. found_at s (flattened_forms f.extents) false f.big) c.survey-in-Flatten.result c.flattened_node.result (surveyed s c.in-Flatten.e vars ts) c.flattened_node.ensures.found child)
+
+pub survey-returns-in-Flatten-clause-vars : goal.survey-returns-in-Flatten-clause-vars
+survey-returns-in-Flatten-clause-vars t c =
+    let s = c.args.sizes.now in
+    made-kept (λ f. found_at s (flattened_forms f.extents) false f.big) (c.survey-in-Flatten.new.vars ≡ c.args.vars.now) c.survey-in-Flatten.result c.flattened_node.result c.flattened_node.ensures.found c.survey-in-Flatten.ensures.vars
+
+pub survey-returns-in-Flatten-clause-shapes : goal.survey-returns-in-Flatten-clause-shapes
+survey-returns-in-Flatten-clause-shapes t c =
+    let s = c.args.sizes.now in
+    made-kept (λ f. found_at s (flattened_forms f.extents) false f.big) (c.survey-in-Flatten.new.shapes ≡ c.args.shapes.now) c.survey-in-Flatten.result c.flattened_node.result c.flattened_node.ensures.found c.survey-in-Flatten.ensures.shapes
+
+pub survey-returns-in-Split-clause-found : goal.survey-returns-in-Split-clause-found
+survey-returns-in-Split-clause-found t c =
+    let s = c.args.sizes.now in
+    let vars = c.args.vars.now in
+    let ts = c.args.shapes.now in
+    let child : IfOk c.survey-in-Split.result (λ f. f ≡ surveyed s c.in-Split.e vars ts) = subst (λ (e : Term). IfOk c.survey-in-Split.result (λ f. f ≡ surveyed s e vars ts)) c.get-in-Split.ensures c.survey-in-Split.ensures.found in
+    subst (λ (f : Found). IfOk c.chunked_node.result (λ found. found ≡ f)) (sym (surveyed-Split s vars ts c.args.term.now c.in-Split.k c.in-Split.e c.in-Split.is))
+    (made-value (λ f. found_at s (chunked_forms c.in-Split.k f.extents) false f.big) c.survey-in-Split.result c.chunked_node.result (surveyed s c.in-Split.e vars ts) c.chunked_node.ensures.found child)
+
+pub survey-returns-in-Split-clause-vars : goal.survey-returns-in-Split-clause-vars
+survey-returns-in-Split-clause-vars t c =
+    let s = c.args.sizes.now in
+    made-kept (λ f. found_at s (chunked_forms c.in-Split.k f.extents) false f.big) (c.survey-in-Split.new.vars ≡ c.args.vars.now) c.survey-in-Split.result c.chunked_node.result c.chunked_node.ensures.found c.survey-in-Split.ensures.vars
+
+pub survey-returns-in-Split-clause-shapes : goal.survey-returns-in-Split-clause-shapes
+survey-returns-in-Split-clause-shapes t c =
+    let s = c.args.sizes.now in
+    made-kept (λ f. found_at s (chunked_forms c.in-Split.k f.extents) false f.big) (c.survey-in-Split.new.shapes ≡ c.args.shapes.now) c.survey-in-Split.result c.chunked_node.result c.chunked_node.ensures.found c.survey-in-Split.ensures.shapes
+
+pub survey-returns-in-Transpose-clause-found : goal.survey-returns-in-Transpose-clause-found
+survey-returns-in-Transpose-clause-found t c =
+    let s = c.args.sizes.now in
+    let vars = c.args.vars.now in
+    let ts = c.args.shapes.now in
+    let child : IfOk c.survey-in-Transpose.result (λ f. f ≡ surveyed s c.in-Transpose.e vars ts) = subst (λ (e : Term). IfOk c.survey-in-Transpose.result (λ f. f ≡ surveyed s e vars ts)) c.get-in-Transpose.ensures c.survey-in-Transpose.ensures.found in
+    subst (λ (f : Found). IfOk c.transposed_node.result (λ found. found ≡ f)) (sym (surveyed-Transpose s vars ts c.args.term.now c.in-Transpose.e c.in-Transpose.is))
+    (made-value (λ f. found_at s (transposed_forms f.extents) false f.big) c.survey-in-Transpose.result c.transposed_node.result (surveyed s c.in-Transpose.e vars ts) c.transposed_node.ensures.found child)
+
+pub survey-returns-in-Transpose-clause-vars : goal.survey-returns-in-Transpose-clause-vars
+survey-returns-in-Transpose-clause-vars t c =
+    let s = c.args.sizes.now in
+    made-kept (λ f. found_at s (transposed_forms f.extents) false f.big) (c.survey-in-Transpose.new.vars ≡ c.args.vars.now) c.survey-in-Transpose.result c.transposed_node.result c.transposed_node.ensures.found c.survey-in-Transpose.ensures.vars
+
+pub survey-returns-in-Transpose-clause-shapes : goal.survey-returns-in-Transpose-clause-shapes
+survey-returns-in-Transpose-clause-shapes t c =
+    let s = c.args.sizes.now in
+    made-kept (λ f. found_at s (transposed_forms f.extents) false f.big) (c.survey-in-Transpose.new.shapes ≡ c.args.shapes.now) c.survey-in-Transpose.result c.transposed_node.result c.transposed_node.ensures.found c.survey-in-Transpose.ensures.shapes
+
+pub survey-returns-in-TruncL-clause-found : goal.survey-returns-in-TruncL-clause-found
+survey-returns-in-TruncL-clause-found t c =
+    let s = c.args.sizes.now in
+    let vars = c.args.vars.now in
+    let ts = c.args.shapes.now in
+    let child : IfOk c.survey-in-TruncL.result (λ f. f ≡ surveyed s c.in-TruncL.e vars ts) = subst (λ (e : Term). IfOk c.survey-in-TruncL.result (λ f. f ≡ surveyed s e vars ts)) c.get-in-TruncL.ensures c.survey-in-TruncL.ensures.found in
+    subst (λ (f : Found). IfOk c.shortened_node.result (λ found. found ≡ f)) (sym (surveyed-TruncL s vars ts c.args.term.now c.in-TruncL.n c.in-TruncL.e c.in-TruncL.is))
+    (made-value (λ f. found_at s (shortened_forms c.in-TruncL.n f.extents) (is_large (at_least_one s) [] c.in-TruncL.n) f.big) c.survey-in-TruncL.result c.shortened_node.result (surveyed s c.in-TruncL.e vars ts) c.shortened_node.ensures.found child)
+
+pub survey-returns-in-TruncL-clause-vars : goal.survey-returns-in-TruncL-clause-vars
+survey-returns-in-TruncL-clause-vars t c =
+    let s = c.args.sizes.now in
+    made-kept (λ f. found_at s (shortened_forms c.in-TruncL.n f.extents) (is_large (at_least_one s) [] c.in-TruncL.n) f.big) (c.survey-in-TruncL.new.vars ≡ c.args.vars.now) c.survey-in-TruncL.result c.shortened_node.result c.shortened_node.ensures.found c.survey-in-TruncL.ensures.vars
+
+pub survey-returns-in-TruncL-clause-shapes : goal.survey-returns-in-TruncL-clause-shapes
+survey-returns-in-TruncL-clause-shapes t c =
+    let s = c.args.sizes.now in
+    made-kept (λ f. found_at s (shortened_forms c.in-TruncL.n f.extents) (is_large (at_least_one s) [] c.in-TruncL.n) f.big) (c.survey-in-TruncL.new.shapes ≡ c.args.shapes.now) c.survey-in-TruncL.result c.shortened_node.result c.shortened_node.ensures.found c.survey-in-TruncL.ensures.shapes
+
+pub survey-returns-in-TruncR-clause-found : goal.survey-returns-in-TruncR-clause-found
+survey-returns-in-TruncR-clause-found t c =
+    let s = c.args.sizes.now in
+    let vars = c.args.vars.now in
+    let ts = c.args.shapes.now in
+    let child : IfOk c.survey-in-TruncR.result (λ f. f ≡ surveyed s c.in-TruncR.e vars ts) = subst (λ (e : Term). IfOk c.survey-in-TruncR.result (λ f. f ≡ surveyed s e vars ts)) c.get-in-TruncR.ensures c.survey-in-TruncR.ensures.found in
+    subst (λ (f : Found). IfOk c.shortened_node-in-TruncR.result (λ found. found ≡ f)) (sym (surveyed-TruncR s vars ts c.args.term.now c.in-TruncR.n c.in-TruncR.e c.in-TruncR.is))
+    (made-value (λ f. found_at s (shortened_forms c.in-TruncR.n f.extents) (is_large (at_least_one s) [] c.in-TruncR.n) f.big) c.survey-in-TruncR.result c.shortened_node-in-TruncR.result (surveyed s c.in-TruncR.e vars ts) c.shortened_node-in-TruncR.ensures.found child)
+
+pub survey-returns-in-TruncR-clause-vars : goal.survey-returns-in-TruncR-clause-vars
+survey-returns-in-TruncR-clause-vars t c =
+    let s = c.args.sizes.now in
+    made-kept (λ f. found_at s (shortened_forms c.in-TruncR.n f.extents) (is_large (at_least_one s) [] c.in-TruncR.n) f.big) (c.survey-in-TruncR.new.vars ≡ c.args.vars.now) c.survey-in-TruncR.result c.shortened_node-in-TruncR.result c.shortened_node-in-TruncR.ensures.found c.survey-in-TruncR.ensures.vars
+
+pub survey-returns-in-TruncR-clause-shapes : goal.survey-returns-in-TruncR-clause-shapes
+survey-returns-in-TruncR-clause-shapes t c =
+    let s = c.args.sizes.now in
+    made-kept (λ f. found_at s (shortened_forms c.in-TruncR.n f.extents) (is_large (at_least_one s) [] c.in-TruncR.n) f.big) (c.survey-in-TruncR.new.shapes ≡ c.args.shapes.now) c.survey-in-TruncR.result c.shortened_node-in-TruncR.result c.shortened_node-in-TruncR.ensures.found c.survey-in-TruncR.ensures.shapes
+
+pub survey-returns-in-PadL-clause-found : goal.survey-returns-in-PadL-clause-found
+survey-returns-in-PadL-clause-found t c =
+    let s = c.args.sizes.now in
+    let vars = c.args.vars.now in
+    let ts = c.args.shapes.now in
+    let child : IfOk c.survey-in-PadL.result (λ f. f ≡ surveyed s c.in-PadL.e vars ts) = subst (λ (e : Term). IfOk c.survey-in-PadL.result (λ f. f ≡ surveyed s e vars ts)) c.get-in-PadL.ensures c.survey-in-PadL.ensures.found in
+    subst (λ (f : Found). IfOk c.lengthened_node.result (λ found. found ≡ f)) (sym (surveyed-PadL s vars ts c.args.term.now c.in-PadL.n c.in-PadL.e c.in-PadL.is))
+    (made-value (λ f. found_at s (lengthened_forms c.in-PadL.n f.extents) (is_large (at_least_one s) [] c.in-PadL.n) f.big) c.survey-in-PadL.result c.lengthened_node.result (surveyed s c.in-PadL.e vars ts) c.lengthened_node.ensures.found child)
+
+pub survey-returns-in-PadL-clause-vars : goal.survey-returns-in-PadL-clause-vars
+survey-returns-in-PadL-clause-vars t c =
+    let s = c.args.sizes.now in
+    made-kept (λ f. found_at s (lengthened_forms c.in-PadL.n f.extents) (is_large (at_least_one s) [] c.in-PadL.n) f.big) (c.survey-in-PadL.new.vars ≡ c.args.vars.now) c.survey-in-PadL.result c.lengthened_node.result c.lengthened_node.ensures.found c.survey-in-PadL.ensures.vars
+
+pub survey-returns-in-PadL-clause-shapes : goal.survey-returns-in-PadL-clause-shapes
+survey-returns-in-PadL-clause-shapes t c =
+    let s = c.args.sizes.now in
+    made-kept (λ f. found_at s (lengthened_forms c.in-PadL.n f.extents) (is_large (at_least_one s) [] c.in-PadL.n) f.big) (c.survey-in-PadL.new.shapes ≡ c.args.shapes.now) c.survey-in-PadL.result c.lengthened_node.result c.lengthened_node.ensures.found c.survey-in-PadL.ensures.shapes
+
+pub survey-returns-in-PadR-clause-found : goal.survey-returns-in-PadR-clause-found
+survey-returns-in-PadR-clause-found t c =
+    let s = c.args.sizes.now in
+    let vars = c.args.vars.now in
+    let ts = c.args.shapes.now in
+    let child : IfOk c.survey-in-PadR.result (λ f. f ≡ surveyed s c.in-PadR.e vars ts) = subst (λ (e : Term). IfOk c.survey-in-PadR.result (λ f. f ≡ surveyed s e vars ts)) c.get-in-PadR.ensures c.survey-in-PadR.ensures.found in
+    subst (λ (f : Found). IfOk c.lengthened_node-in-PadR.result (λ found. found ≡ f)) (sym (surveyed-PadR s vars ts c.args.term.now c.in-PadR.n c.in-PadR.e c.in-PadR.is))
+    (made-value (λ f. found_at s (lengthened_forms c.in-PadR.n f.extents) (is_large (at_least_one s) [] c.in-PadR.n) f.big) c.survey-in-PadR.result c.lengthened_node-in-PadR.result (surveyed s c.in-PadR.e vars ts) c.lengthened_node-in-PadR.ensures.found child)
+
+pub survey-returns-in-PadR-clause-vars : goal.survey-returns-in-PadR-clause-vars
+survey-returns-in-PadR-clause-vars t c =
+    let s = c.args.sizes.now in
+    made-kept (λ f. found_at s (lengthened_forms c.in-PadR.n f.extents) (is_large (at_least_one s) [] c.in-PadR.n) f.big) (c.survey-in-PadR.new.vars ≡ c.args.vars.now) c.survey-in-PadR.result c.lengthened_node-in-PadR.result c.lengthened_node-in-PadR.ensures.found c.survey-in-PadR.ensures.vars
+
+pub survey-returns-in-PadR-clause-shapes : goal.survey-returns-in-PadR-clause-shapes
+survey-returns-in-PadR-clause-shapes t c =
+    let s = c.args.sizes.now in
+    made-kept (λ f. found_at s (lengthened_forms c.in-PadR.n f.extents) (is_large (at_least_one s) [] c.in-PadR.n) f.big) (c.survey-in-PadR.new.shapes ≡ c.args.shapes.now) c.survey-in-PadR.result c.lengthened_node-in-PadR.result c.lengthened_node-in-PadR.ensures.found c.survey-in-PadR.ensures.shapes
 
 pub survey-returns-in_ok-first-in-Let-clause-found : goal.survey-returns-in_ok-first-in-Let-clause-found
 survey-returns-in_ok-first-in-Let-clause-found t c =
@@ -372,30 +474,48 @@ survey-returns-in-WordOf-clause-found t c =
 
 pub survey-flattened_node-requires-clause-within : goal.survey-flattened_node-requires-clause-within
 survey-flattened_node-requires-clause-within t c =
-    let child = c.in_ok-child-in-Flatten.ensures.found ∙ ap (λ e. surveyed c.args.sizes.now e c.args.vars.now c.args.shapes.now) c.get-in-Flatten.ensures in
-    ap (λ f. each_within (flattened_forms f.extents)) child ∙ (shape-Flatten c.args.sizes.now c.args.vars.now c.args.shapes.now c.args.term.now c.in-Flatten.e c.in-Flatten.is c.requires.shaped).1
+    let s = c.args.sizes.now in
+    let vars = c.args.vars.now in
+    let ts = c.args.shapes.now in
+    let child : IfOk c.survey-in-Flatten.result (λ f. f ≡ surveyed s c.in-Flatten.e vars ts) = subst (λ (e : Term). IfOk c.survey-in-Flatten.result (λ f. f ≡ surveyed s e vars ts)) c.get-in-Flatten.ensures c.survey-in-Flatten.ensures.found in
+    below_fits (λ f. each_within (flattened_forms f.extents) ≡ true) c.survey-in-Flatten.result (surveyed s c.in-Flatten.e vars ts) child (shape-Flatten s vars ts c.args.term.now c.in-Flatten.e c.in-Flatten.is c.requires.shaped).1
 
 pub survey-chunked_node-requires-clause-within : goal.survey-chunked_node-requires-clause-within
 survey-chunked_node-requires-clause-within t c =
-    let child = c.in_ok-child-in-Split.ensures.found ∙ ap (λ e. surveyed c.args.sizes.now e c.args.vars.now c.args.shapes.now) c.get-in-Split.ensures in
-    ap (λ f. each_within (chunked_forms c.in-Split.k f.extents)) child ∙ (shape-Split c.args.sizes.now c.args.vars.now c.args.shapes.now c.args.term.now c.in-Split.k c.in-Split.e c.in-Split.is c.requires.shaped).1
+    let s = c.args.sizes.now in
+    let vars = c.args.vars.now in
+    let ts = c.args.shapes.now in
+    let child : IfOk c.survey-in-Split.result (λ f. f ≡ surveyed s c.in-Split.e vars ts) = subst (λ (e : Term). IfOk c.survey-in-Split.result (λ f. f ≡ surveyed s e vars ts)) c.get-in-Split.ensures c.survey-in-Split.ensures.found in
+    below_fits (λ f. each_within (chunked_forms c.in-Split.k f.extents) ≡ true) c.survey-in-Split.result (surveyed s c.in-Split.e vars ts) child (shape-Split s vars ts c.args.term.now c.in-Split.k c.in-Split.e c.in-Split.is c.requires.shaped).1
 
 pub survey-shortened_node-requires-clause-within : goal.survey-shortened_node-requires-clause-within
 survey-shortened_node-requires-clause-within t c =
-    let child = c.in_ok-child-in-TruncL.ensures.found ∙ ap (λ e. surveyed c.args.sizes.now e c.args.vars.now c.args.shapes.now) c.get-in-TruncL.ensures in
-    ap (λ f. each_within (shortened_forms c.in-TruncL.n f.extents)) child ∙ (shape-TruncL c.args.sizes.now c.args.vars.now c.args.shapes.now c.args.term.now c.in-TruncL.n c.in-TruncL.e c.in-TruncL.is c.requires.shaped).1
+    let s = c.args.sizes.now in
+    let vars = c.args.vars.now in
+    let ts = c.args.shapes.now in
+    let child : IfOk c.survey-in-TruncL.result (λ f. f ≡ surveyed s c.in-TruncL.e vars ts) = subst (λ (e : Term). IfOk c.survey-in-TruncL.result (λ f. f ≡ surveyed s e vars ts)) c.get-in-TruncL.ensures c.survey-in-TruncL.ensures.found in
+    below_fits (λ f. each_within (shortened_forms c.in-TruncL.n f.extents) ≡ true) c.survey-in-TruncL.result (surveyed s c.in-TruncL.e vars ts) child (shape-TruncL s vars ts c.args.term.now c.in-TruncL.n c.in-TruncL.e c.in-TruncL.is c.requires.shaped).1
 
 pub survey-shortened_node-requires-in-TruncR-clause-within : goal.survey-shortened_node-requires-in-TruncR-clause-within
 survey-shortened_node-requires-in-TruncR-clause-within t c =
-    let child = c.in_ok-child-in-TruncR.ensures.found ∙ ap (λ e. surveyed c.args.sizes.now e c.args.vars.now c.args.shapes.now) c.get-in-TruncR.ensures in
-    ap (λ f. each_within (shortened_forms c.in-TruncR.n f.extents)) child ∙ (shape-TruncR c.args.sizes.now c.args.vars.now c.args.shapes.now c.args.term.now c.in-TruncR.n c.in-TruncR.e c.in-TruncR.is c.requires.shaped).1
+    let s = c.args.sizes.now in
+    let vars = c.args.vars.now in
+    let ts = c.args.shapes.now in
+    let child : IfOk c.survey-in-TruncR.result (λ f. f ≡ surveyed s c.in-TruncR.e vars ts) = subst (λ (e : Term). IfOk c.survey-in-TruncR.result (λ f. f ≡ surveyed s e vars ts)) c.get-in-TruncR.ensures c.survey-in-TruncR.ensures.found in
+    below_fits (λ f. each_within (shortened_forms c.in-TruncR.n f.extents) ≡ true) c.survey-in-TruncR.result (surveyed s c.in-TruncR.e vars ts) child (shape-TruncR s vars ts c.args.term.now c.in-TruncR.n c.in-TruncR.e c.in-TruncR.is c.requires.shaped).1
 
 pub survey-lengthened_node-requires-clause-within : goal.survey-lengthened_node-requires-clause-within
 survey-lengthened_node-requires-clause-within t c =
-    let child = c.in_ok-child-in-PadL.ensures.found ∙ ap (λ e. surveyed c.args.sizes.now e c.args.vars.now c.args.shapes.now) c.get-in-PadL.ensures in
-    ap (λ f. each_within (lengthened_forms c.in-PadL.n f.extents)) child ∙ (shape-PadL c.args.sizes.now c.args.vars.now c.args.shapes.now c.args.term.now c.in-PadL.n c.in-PadL.e c.in-PadL.is c.requires.shaped).1
+    let s = c.args.sizes.now in
+    let vars = c.args.vars.now in
+    let ts = c.args.shapes.now in
+    let child : IfOk c.survey-in-PadL.result (λ f. f ≡ surveyed s c.in-PadL.e vars ts) = subst (λ (e : Term). IfOk c.survey-in-PadL.result (λ f. f ≡ surveyed s e vars ts)) c.get-in-PadL.ensures c.survey-in-PadL.ensures.found in
+    below_fits (λ f. each_within (lengthened_forms c.in-PadL.n f.extents) ≡ true) c.survey-in-PadL.result (surveyed s c.in-PadL.e vars ts) child (shape-PadL s vars ts c.args.term.now c.in-PadL.n c.in-PadL.e c.in-PadL.is c.requires.shaped).1
 
 pub survey-lengthened_node-requires-in-PadR-clause-within : goal.survey-lengthened_node-requires-in-PadR-clause-within
 survey-lengthened_node-requires-in-PadR-clause-within t c =
-    let child = c.in_ok-child-in-PadR.ensures.found ∙ ap (λ e. surveyed c.args.sizes.now e c.args.vars.now c.args.shapes.now) c.get-in-PadR.ensures in
-    ap (λ f. each_within (lengthened_forms c.in-PadR.n f.extents)) child ∙ (shape-PadR c.args.sizes.now c.args.vars.now c.args.shapes.now c.args.term.now c.in-PadR.n c.in-PadR.e c.in-PadR.is c.requires.shaped).1
+    let s = c.args.sizes.now in
+    let vars = c.args.vars.now in
+    let ts = c.args.shapes.now in
+    let child : IfOk c.survey-in-PadR.result (λ f. f ≡ surveyed s c.in-PadR.e vars ts) = subst (λ (e : Term). IfOk c.survey-in-PadR.result (λ f. f ≡ surveyed s e vars ts)) c.get-in-PadR.ensures c.survey-in-PadR.ensures.found in
+    below_fits (λ f. each_within (lengthened_forms c.in-PadR.n f.extents) ≡ true) c.survey-in-PadR.result (surveyed s c.in-PadR.e vars ts) child (shape-PadR s vars ts c.args.term.now c.in-PadR.n c.in-PadR.e c.in-PadR.is c.requires.shaped).1
