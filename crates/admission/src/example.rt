@@ -41,7 +41,7 @@ fn assume_holds(assume: &Cmp, sizes: &[u64]) -> bool
 
 /// The number of the first assume that does not hold, where the first of all has this number.
 fn broken_assume(first: u64, assumes: &[Cmp], sizes: &[u64]) -> Option<u64>
-    requires few { first + length assumes.now ≤ 4294967295 }
+    requires few { first ≤ 2147483648 }
     requires scoped { all_scoped (length sizes.now) 0 assumes.now ≡ true }
     ensures { result ≡ first_false first (map (assume_holds sizes.now) assumes.now) }
 {
@@ -57,7 +57,6 @@ fn broken_assume(first: u64, assumes: &[Cmp], sizes: &[u64]) -> Option<u64>
 pub fn broken(module: &Module) -> Option<u64>
     requires scoped { module_scoped «module».now ≡ true }
     requires sizes { length «module».now.sizes ≤ 2147483647 }
-    requires assumes { length «module».now.assumes ≤ 2147483647 }
     requires example { length «module».now.example ≡ length «module».now.sizes }
     ensures { result ≡ first_false 1 (kept «module».now) }
 {

@@ -81,7 +81,6 @@ fn all_shown(alloc: Global, module: &Module, goals: &[Aff]) -> Result<(), Admiss
 fn example_kept(module: &Module) -> Result<(), AdmissionFault>
     requires scoped { m.module_scoped «module».now ≡ true }
     requires sizes { length «module».now.sizes ≤ 2147483647 }
-    requires assumes { length «module».now.assumes ≤ 2147483647 }
     requires example { length «module».now.example ≡ length «module».now.sizes }
     ensures answers { MatchResult result (λ _. bad_example «module».now ≡ None) (Tells (bad_example «module».now)) }
     ensures allowed { OnOk result (m.Allowed «module».now «module».now.example) }
@@ -98,7 +97,6 @@ fn example_kept(module: &Module) -> Result<(), AdmissionFault>
 pub fn admit(alloc: Global, module: &Module) -> Result<(), AdmissionFault>
     requires scoped { m.module_scoped «module».now ≡ true }
     requires sizes { length «module».now.sizes ≤ 2147483647 }
-    requires assumes { length «module».now.assumes ≤ 2147483647 }
     requires inputs { length «module».now.inputs ≤ 2147483647 }
     requires outputs { length «module».now.outputs ≤ 2147483647 }
     requires example { length «module».now.example ≡ length «module».now.sizes }
