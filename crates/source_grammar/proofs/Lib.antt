@@ -4,3 +4,6 @@ pub mod ConditionLaws
 pub mod TermLaws
 pub mod SourceLaws
 pub mod ModuleLaws
+pub mod ScopedLaws
+pub mod ScopedSources
+pub mod ScopedModules
