@@ -14,7 +14,8 @@ use Rattle.path_focus.specs.declared.outcome.Rewrite.{Rewrite}
 use Rattle.path_focus.specs.declared.rule.Condition.{Condition}
 use Rattle.path_focus.specs.declared.rule.RuleFault.{RuleFault}
 
-chosen_is : (raw e : Term) (a b c : Bool) (x y z : RuleFault) → ◌≡◌ {A = Result Term RuleFault} (Ok e) (if a then (if b then (if c then Ok raw else Err x) else Err y) else Err z) → e ≡ raw
+chosen_is : (raw e : Term) (a b c : Bool) (x y z : RuleFault)
+    → ◌≡◌ {A = Result Term RuleFault} (Ok e) (if a then (if b then (if c then Ok raw else Err x) else Err y) else Err z) → e ≡ raw
 chosen_is raw e true true true x y z h = cc
 chosen_is raw e true true false x y z h = absurd (cc)
 chosen_is raw e true false c x y z h = absurd (cc)
@@ -32,5 +33,6 @@ made_keeps (Makes raw cs) w f (Ok e) h k g d =
     subst (λ (x : Term). KeepsMeaning f x × KeepsShape f x) (sym (limited_is raw e (d raw h.1))) (k.0 (subst AllTrueGoals h.0 g), k.1)
 made_keeps (Makes raw cs) w f (Err x) h k g d = tt
 
-pub true_before : (cs : List Condition) (i j : ℕ) (c : Condition) (b : Bool) → i ≡ j → i < length cs → c ≡ get_or cs i c → (b ≡ true → IsTrueGoal c) → b ≡ true → AllBefore IsTrueGoal i cs → AllBefore IsTrueGoal (i + 1) cs
+pub true_before : (cs : List Condition) (i j : ℕ) (c : Condition) (b : Bool) → i ≡ j → i < length cs → c ≡ get_or cs i c → (b ≡ true → IsTrueGoal c) → b ≡ true
+    → AllBefore IsTrueGoal i cs → AllBefore IsTrueGoal (i + 1) cs
 true_before cs i j c b e l q h t k = before_more IsTrueGoal cs i c l q (h t) k

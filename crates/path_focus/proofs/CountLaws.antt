@@ -13,7 +13,8 @@ use Rattle.term_tree.specs.Shape.{Extents}
 use Rattle.term_tree.specs.Syntax.{index, gen, sum, guard, let_in, add, sub, mul, concat, flatten, split, transpose, trunc_l, trunc_r, pad_l, pad_r}
 use Rattle.term_tree.specs.declared.term.Term.{Term, Lit, TVar, WordOf}
 use Rattle.path_focus.specs.Focus.{AllApart, Each}
-use Rattle.path_focus.specs.Frames.{Frame, OfIndex, OfGen, OfSum, OfGuard, OfDefinition, OfBody, AddLeft, AddRight, SubLeft, SubRight, MulLeft, MulRight, ConcatLeft, ConcatRight, OfFlatten, OfSplit, OfTranspose, OfTruncL, OfTruncR, OfPadL, OfPadR, filled, refilled}
+use Rattle.path_focus.specs.Frames.{Frame, OfIndex, OfGen, OfSum, OfGuard, OfDefinition, OfBody, AddLeft, AddRight, SubLeft, SubRight, MulLeft, MulRight}
+use Rattle.path_focus.specs.Frames.{ConcatLeft, ConcatRight, OfFlatten, OfSplit, OfTranspose, OfTruncL, OfTruncR, OfPadL, OfPadR, filled, refilled}
 use Rattle.path_focus.specs.Places.{Around, Definition, at_end, below, moved_lets, under_index}
 
 -- a node has more nodes than its child
@@ -49,14 +50,16 @@ under_many : (ds : List Definition) → length (under_index ds) ≡ length ds
 under_many [] = refl
 under_many (d ∷ ds) = ap suc (under_many ds)
 
-below_many : (inputs : List Extents) (f : Frame) (z : Around) → length z.definitions ≡ length z.lets → length (below inputs f z).definitions ≡ length (below inputs f z).lets
+below_many : (inputs : List Extents) (f : Frame) (z : Around) → length z.definitions ≡ length z.lets
+    → length (below inputs f z).definitions ≡ length (below inputs f z).lets
 below_many inputs (OfGen n) z h = under_many z.definitions ∙ h
 below_many inputs (OfSum n) z h = under_many z.definitions ∙ h
 below_many inputs (OfBody a) z h = ap suc h
 below_many inputs _ z h = h
 
 -- as many definitions as lets
-pub end_many : (inputs : List Extents) (fs : List Frame) (z : Around) → length z.definitions ≡ length z.lets → length (at_end inputs fs z).definitions ≡ length (at_end inputs fs z).lets
+pub end_many : (inputs : List Extents) (fs : List Frame) (z : Around) → length z.definitions ≡ length z.lets
+    → length (at_end inputs fs z).definitions ≡ length (at_end inputs fs z).lets
 end_many inputs [] z h = h
 end_many inputs (f ∷ fs) z h = end_many inputs fs (below inputs f z) (below_many inputs f z h)
 
@@ -119,7 +122,8 @@ depth_nodes (mul a b) = let h = depth_nodes a in let k = depth_nodes b in grind 
 depth_nodes (concat a b) = let h = depth_nodes a in let k = depth_nodes b in grind (arith, h, k)
 
 -- a form in scope may be put for the variable of a gen or sum
-pub one_put : (sizes vars tensors : ℕ) (x : Items) (b : Term) → vars ≤ 2147483647 → node_count b ≤ 20000 → items_scoped sizes vars x ≡ true → term_scoped sizes b (vars + 1) tensors ≡ true
+pub one_put : (sizes vars tensors : ℕ) (x : Items) (b : Term) → vars ≤ 2147483647 → node_count b ≤ 20000 → items_scoped sizes vars x ≡ true
+    → term_scoped sizes b (vars + 1) tensors ≡ true
     → (node_depth b ≤ 2147483647) × IsWithinReach (put_index_reach (x ∷ []) 0) b
 one_put sizes vars tensors x b few small h k =
     let d = depth_nodes b in

@@ -8,10 +8,13 @@ pub mod FocusMeaning
 pub mod FrameLaws
 pub mod GoalLaws
 pub mod KnownLaws
+pub mod MakingLaws
 pub mod ModuleLaws
 pub mod MovedLaws
 pub mod PlaceLaws
 pub mod ProperLaws
+pub mod PutLaws
+pub mod ShapeScopes
 pub mod SteadyLaws
 pub mod TrailLaws
 pub mod WayLaws

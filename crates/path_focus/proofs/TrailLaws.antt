@@ -1,5 +1,6 @@
 -- The code's way down to a place and back, level by level, is that of the definitions.
-use Rattle.std.proofs.Common.{◌≡◌, ℕ, zero, suc, ◌+◌, ◌≤◌, ◌^◌, ◌-◌, List, [], ◌∷◌, ◌++◌, length, get_or, take, drop, append_assoc, refl, ap, sym, ◌∙◌, subst, arith, add-one, Some, None, Ok, Err, IsOk, Bool, true, false, ◌==◌, if◌then◌else◌}
+use Rattle.std.proofs.Common.{◌≡◌, ℕ, zero, suc, ◌+◌, ◌≤◌, ◌^◌, ◌-◌, List, [], ◌∷◌, ◌++◌, length, get_or, take, drop, append_assoc, refl, ap, sym, ◌∙◌, subst}
+use Rattle.std.proofs.Common.{arith, add-one, Some, None, Ok, Err, IsOk, Bool, true, false, ◌==◌, if◌then◌else◌}
 use Rattle.std.specs.Prelude.{Option, IfSome, Result, map}
 use Rattle.std.proofs.lemmas.List.{append-nil}
 use Rattle.std.specs.Option.{option_and_then, option_map}
@@ -26,11 +27,14 @@ use Rattle.term_tree.specs.declared.term.Term.TheOpen.{Term-F}
 use Rattle.term_tree.specs.declared.term.Term.TheViews.{roll-Term, roll-out-Term}
 use Rattle.term_tree.specs.declared.term.Term.TheVariants.{rolls-Let}
 use Rattle.term_tree.specs.declared.term.Term.TheVariants as variant
-use Rattle.term_tree.proofs.Forms.{Index-is, Gen-is, Sum-is, Guard-is, Let-is, Add-is, Sub-is, Mul-is, Concat-is, Flatten-is, Split-is, Transpose-is, TruncL-is, TruncR-is, PadL-is, PadR-is}
-use Rattle.path_focus.specs.Frames.{Frame, OfIndex, OfGen, OfSum, OfGuard, OfDefinition, OfBody, AddLeft, AddRight, SubLeft, SubRight, MulLeft, MulRight, ConcatLeft, ConcatRight, OfFlatten, OfSplit, OfTranspose, OfTruncL, OfTruncR, OfPadL, OfPadR}
+use Rattle.term_tree.proofs.Forms.{Index-is, Gen-is, Sum-is, Guard-is, Let-is, Add-is, Sub-is, Mul-is, Concat-is, Flatten-is, Split-is, Transpose-is, TruncL-is}
+use Rattle.term_tree.proofs.Forms.{TruncR-is, PadL-is, PadR-is}
+use Rattle.path_focus.specs.Frames.{Frame, OfIndex, OfGen, OfSum, OfGuard, OfDefinition, OfBody, AddLeft, AddRight, SubLeft, SubRight, MulLeft, MulRight}
+use Rattle.path_focus.specs.Frames.{ConcatLeft, ConcatRight, OfFlatten, OfSplit, OfTranspose, OfTruncL, OfTruncR, OfPadL, OfPadR}
 use Rattle.path_focus.specs.Frames.{filled, Opened, opened, opened_level, Way, behind, way, refilled}
 use Rattle.path_focus.specs.Places.{Around, Definition, at_end, below, moved_lets, no_way, under_index}
-use Rattle.path_focus.specs.Trail.{MayEnter, MayGo, MayLeave, MayMove, MayShape, Reaches, entered, entered_level, filled_level, focus_by, left, left_level, moved_let, start_of, trailed}
+use Rattle.path_focus.specs.Trail.{MayEnter, MayGo, MayLeave, MayMove, MayShape, Reaches, entered, entered_level, filled_level, focus_by, left, left_level}
+use Rattle.path_focus.specs.Trail.{moved_let, start_of, trailed}
 use Rattle.path_focus.specs.Focus.{focus_at}
 use Rattle.path_focus.specs.declared.place.BoundLet.{BoundLet}
 use Rattle.path_focus.specs.declared.trail.Trail.{Trail}
@@ -195,7 +199,8 @@ module _ (z : Trail) where
         lets = omega (arith, k);
         deep = omega (arith, d, few);
         small = few;
-        within = shift_within y.over (length y.bound + 1) g.sizes (binders z.path) (length (given z.shapes)) a (omega (arith, k, d, g.index)) (omega (arith, k, d, g.tensor)) c.1;
+        within = shift_within y.over (length y.bound + 1) g.sizes (binders z.path) (length (given z.shapes)) a (omega (arith, k, d, g.index))
+            (omega (arith, k, d, g.tensor)) c.1;
       }
   level_may_leave _ y k h = tt
 
@@ -217,7 +222,8 @@ entered_inputs (OfGuard c) z = refl
 entered_inputs (OfBody a) z = refl
 entered_inputs _ z = refl
 
-pub entered_below : (f : Frame) (z : Trail) (ds : List Definition) → as_around (entered f z) (below z.shapes.inputs f (as_around z ds)).definitions ≡ below z.shapes.inputs f (as_around z ds)
+pub entered_below : (f : Frame) (z : Trail) (ds : List Definition)
+    → as_around (entered f z) (below z.shapes.inputs f (as_around z ds)).definitions ≡ below z.shapes.inputs f (as_around z ds)
 entered_below (OfGen n) z ds = refl
 entered_below (OfSum n) z ds = refl
 entered_below (OfGuard c) z ds = refl
@@ -286,7 +292,8 @@ trailed_room (f ∷ fs) z =
     let r = entered_room f z in
     omega (arith, h, k, r.0, ap length r.1)
 
-pub way_room : (ks : List ℕ) (e : Term) (w : Way) (z : Trail) → way e ks ≡ Some w → MayGo z e → (trailed w.frames z).over + length (trailed w.frames z).bound ≤ 20000
+pub way_room : (ks : List ℕ) (e : Term) (w : Way) (z : Trail) → way e ks ≡ Some w → MayGo z e
+    → (trailed w.frames z).over + length (trailed w.frames z).bound ≤ 20000
 way_room ks e w z h g =
     let t = trailed_room w.frames z in
     let f = way_fewer w.term w.frames in
@@ -299,7 +306,8 @@ goes_on e k ks o h = ap (option_and_then (λ o. option_map (behind o.frame) (way
 pub goes_nowhere : (e : Term) (k : ℕ) (ks : List ℕ) → opened e k ≡ None → way e (k ∷ ks) ≡ None
 goes_nowhere e k ks h = ap (option_and_then (λ o. option_map (behind o.frame) (way o.child ks))) h
 
-pub reaches_on : (o : Opened) (v : Option Way) (z y : Trail) (e : Term) → Reaches v (entered o.frame z) y e → Reaches (option_map (behind o.frame) v) z (left o.frame y) e
+pub reaches_on : (o : Opened) (v : Option Way) (z y : Trail) (e : Term) → Reaches v (entered o.frame z) y e
+    → Reaches (option_map (behind o.frame) v) z (left o.frame y) e
 reaches_on o (Some w) z y e h = (h.0, ap (left o.frame) h.1)
 reaches_on o None z y e h = absurd h
 
@@ -313,25 +321,29 @@ opened_at (Some o) e h = (o, refl, (let q : o.child ≡ e = cc in q))
 opened_at None e h = absurd (cc)
 
 -- the recursion of the code: on into a child, and back
-pub go_on : (e : Term) (k : ℕ) (z y : Trail) (x : Term) → Some x ≡ option_map (λ o. o.child) (opened e k) → y ≡ entered_level (out-Term e) k z → MayGo z e → MayGo y x
+pub go_on : (e : Term) (k : ℕ) (z y : Trail) (x : Term) → Some x ≡ option_map (λ o. o.child) (opened e k) → y ≡ entered_level (out-Term e) k z → MayGo z e
+    → MayGo y x
 go_on e k z y x h i g =
     let o = opened_at (opened e k) x h in
     subst (λ (p : Trail × Term). MayGo p.0 p.1) (λ j. (sym (i ∙ opened_entered e k o.0 z o.1) j, o.2 j)) (may_go e k o.0 z o.1 g)
 
-pub may_return : (e : Term) (k : ℕ) (ks : List ℕ) (z y y' : Trail) (x found : Term) → Some x ≡ option_map (λ o. o.child) (opened e k) → y ≡ entered_level (out-Term e) k z
+pub may_return : (e : Term) (k : ℕ) (ks : List ℕ) (z y y' : Trail) (x found : Term) → Some x ≡ option_map (λ o. o.child) (opened e k)
+    → y ≡ entered_level (out-Term e) k z
     → MayGo z e → Reaches (way x ks) y y' found → MayLeave (out-Term e) y'
 may_return e k ks z y y' x found h i g r =
     let w = reached_way (way x ks) y y' found r in
     let room = way_room ks x w.0 y w.1 (go_on e k z y x h i g) in
     may_leave z e y' (subst (λ (u : Trail). u.over + length u.bound ≤ 20000) (sym w.3) room) g
 
-pub reaches : (e : Term) (k : ℕ) (ks : List ℕ) (z y y' y2 : Trail) (x found : Term) → Some x ≡ option_map (λ o. o.child) (opened e k) → y ≡ entered_level (out-Term e) k z
+pub reaches : (e : Term) (k : ℕ) (ks : List ℕ) (z y y' y2 : Trail) (x found : Term) → Some x ≡ option_map (λ o. o.child) (opened e k)
+    → y ≡ entered_level (out-Term e) k z
     → Reaches (way x ks) y y' found → y2 ≡ left_level (out-Term e) k y' → Reaches (way e (k ∷ ks)) z y2 found
 reaches e k ks z y y' y2 x found h i r l =
     let o = opened_at (opened e k) x h in
     let inside : Reaches (way o.0.child ks) (entered o.0.frame z) y' found =
     subst (λ (p : Term × Trail). Reaches (way p.0 ks) p.1 y' found) (λ j. (sym o.2 j, (i ∙ opened_entered e k o.0 z o.1) j)) r in
-    subst (λ (p : Option Way × Trail). Reaches p.0 z p.1 found) (λ j. (sym (goes_on e k ks o.0 o.1) j, sym (l ∙ opened_left e k o.0 y' o.1) j)) (reaches_on o.0 (way o.0.child ks) z y' found inside)
+    subst (λ (p : Option Way × Trail). Reaches p.0 z p.1 found) (λ j. (sym (goes_on e k ks o.0 o.1) j, sym (l ∙ opened_left e k o.0 y' o.1) j))
+    (reaches_on o.0 (way o.0.child ks) z y' found inside)
 
 nothing_opened : (x : Option Opened) → None ≡ option_map (λ o. o.child) x → x ≡ None
 nothing_opened (Some o) h = absurd (cc)
@@ -358,7 +370,9 @@ raised_under : (k : ℕ) (ds : List Definition) → raised k (under_index ds) �
 raised_under k [] = refl
 raised_under k (d ∷ ds) = let e : d.over + 1 + k ≡ d.over + (k + 1) = omega arith in λ i. record { term = d.term; over = e i } ∷ raised_under k ds i
 
-told_let : (y : Trail) (a : Term) (ds : List Definition) → y.bound ++ moved_lets (length y.bound) (raised y.over (record { term = a; over = 0 } ∷ ds)) ≡ (left (OfBody a) y).bound ++ moved_lets (length (left (OfBody a) y).bound) (raised y.over ds)
+told_let : (y : Trail) (a : Term) (ds : List Definition) → y.bound
+    ++ moved_lets (length y.bound) (raised y.over (record { term = a; over = 0 } ∷ ds)) ≡ (left (OfBody a) y).bound
+    ++ moved_lets (length (left (OfBody a) y).bound) (raised y.over ds)
 told_let y a ds =
     let n = length y.bound in
     let first : record { var = n; term = mapped (shift_map (0 + y.over) (suc n)) 0 0 a } ≡ moved_let y a =
@@ -367,7 +381,8 @@ told_let y a ds =
     ∙ sym (append_assoc y.bound (moved_let y a ∷ []) (moved_lets (suc n) (raised y.over ds)))
     ∙ ap (λ k. (y.bound ++ moved_let y a ∷ []) ++ moved_lets k (raised y.over ds)) (sym (one_more y.bound (moved_let y a)))
 
-told_frame : (f : Frame) (inputs : List Extents) (z y : Trail) (ds : List Definition) → y.bound ++ moved_lets (length y.bound) (raised y.over (below inputs f (as_around z ds)).definitions)
+told_frame : (f : Frame) (inputs : List Extents) (z y : Trail) (ds : List Definition) → y.bound
+    ++ moved_lets (length y.bound) (raised y.over (below inputs f (as_around z ds)).definitions)
     ≡ (left f y).bound ++ moved_lets (length (left f y).bound) (raised (left f y).over ds)
 told_frame (OfGen n) inputs z y ds = ap (λ es. y.bound ++ moved_lets (length y.bound) es) (raised_under y.over ds)
 told_frame (OfSum n) inputs z y ds = ap (λ es. y.bound ++ moved_lets (length y.bound) es) (raised_under y.over ds)
@@ -375,7 +390,8 @@ told_frame (OfBody a) inputs z y ds = told_let y a ds
 told_frame _ inputs z y ds = refl
 
 trailed_lets : (fs : List Frame) (z : Trail) (ds : List Definition) → z.bound ≡ [] → z.over ≡ 0
-    → moved_lets 0 (at_end z.shapes.inputs fs (as_around z ds)).definitions ≡ (trailed fs z).bound ++ moved_lets (length (trailed fs z).bound) (raised (trailed fs z).over ds)
+    → moved_lets 0 (at_end z.shapes.inputs fs (as_around z ds)).definitions ≡ (trailed fs z).bound
+    ++ moved_lets (length (trailed fs z).bound) (raised (trailed fs z).over ds)
 trailed_lets [] z ds b o = ap (moved_lets 0) (sym (raised_none ds)) ∙ (λ i. sym b i ++ moved_lets (length (sym b i)) (raised (sym o i) ds))
 trailed_lets (f ∷ fs) z ds b o =
     let y = trailed fs (entered f z) in
@@ -399,7 +415,8 @@ trailed_end (f ∷ fs) z ds =
     let l = left_rest f (trailed fs (entered f z)) in
     let inner = below z.shapes.inputs f (as_around z ds) in
     let h = trailed_end fs (entered f z) inner.definitions in
-    let same : at_end (entered f z).shapes.inputs fs (as_around (entered f z) inner.definitions) ≡ at_end z.shapes.inputs fs inner = λ i. at_end (entered_inputs f z i) fs (entered_below f z ds i) in
+    let same : at_end (entered f z).shapes.inputs fs (as_around (entered f z) inner.definitions) ≡ at_end z.shapes.inputs fs inner = λ i. at_end
+    (entered_inputs f z i) fs (entered_below f z ds i) in
     (l.0 ∙ h.0 ∙ ap (λ (a : Around). a.path) same, l.1 ∙ h.1 ∙ (λ i. record { lets = (same i).lets; inputs = entered_inputs f z i }))
 
 pub focus_told : (m : Module) (w : Way) (y : Trail) (e : Term) → y ≡ trailed w.frames (start_of (input_shapes m)) → e ≡ w.term
@@ -408,7 +425,8 @@ focus_told m w y e h t =
     let z = start_of (input_shapes m) in
     let p = trailed_end w.frames z [] in
     let b = trailed_lets w.frames z [] refl refl in
-    let lets : (trailed w.frames z).bound ≡ moved_lets 0 (at_end (input_shapes m) w.frames no_way).definitions = sym (append-nil (trailed w.frames z).bound) ∙ sym b in
+    let lets : (trailed w.frames z).bound ≡ moved_lets 0 (at_end (input_shapes m) w.frames no_way).definitions = sym (append-nil (trailed w.frames z).bound)
+    ∙ sym b in
     λ i. record {
       facts = record { sizes = map (λ d. record { low = d.low; high = d.high }) m.sizes; assumes = m.assumes; path = (ap (λ (u : Trail). u.path) h ∙ p.0) i };
       shapes = (ap (λ (u : Trail). u.shapes) h ∙ p.1) i;
@@ -423,7 +441,8 @@ bool_not : (b : Bool) → b ≡ true → b ≡ false → ⊥
 bool_not b h k = absurd (cc)
 
 -- a map that moves variables refuses for want of memory alone
-pub moved_refusal : (a b : ℕ) (e : Term) (r : MapRefusal) → every_form is_normal e ≡ true → node_count e ≤ 20000 → IsWithinLimits (mapped (shift_map a b) 0 0 e) (Err r) → r ≡ refusal.Memory
+pub moved_refusal : (a b : ℕ) (e : Term) (r : MapRefusal) → every_form is_normal e ≡ true → node_count e ≤ 20000
+    → IsWithinLimits (mapped (shift_map a b) 0 0 e) (Err r) → r ≡ refusal.Memory
 moved_refusal a b e refusal.CoefficientTooLarge n s h = absurd (bool_not _ (shift-fits a b e n) h)
 moved_refusal a b e refusal.IndexTooLong n s h = absurd (bool_not _ (shift-short a b e n) h.1)
 moved_refusal a b e refusal.NotAffine n s h = absurd h
@@ -439,7 +458,8 @@ pub steps_are : (ls : List ℕ) → 1 ≤ length ls → ls ≡ get_or ls 0 0 ∷
 steps_are [] h = absurd (omega (arith, h))
 steps_are (k ∷ ks) h = ap (λ rest. k ∷ rest) (sym (all_taken ks (suc (length ks) - 1) (omega arith)))
 
-pub reaches_steps : (e : Term) (ls : List ℕ) (z y y' y2 : Trail) (x found : Term) → 1 ≤ length ls → Some x ≡ option_map (λ o. o.child) (opened e (get_or ls 0 0)) → y ≡ entered_level (out-Term e) (get_or ls 0 0) z
+pub reaches_steps : (e : Term) (ls : List ℕ) (z y y' y2 : Trail) (x found : Term) → 1 ≤ length ls
+    → Some x ≡ option_map (λ o. o.child) (opened e (get_or ls 0 0)) → y ≡ entered_level (out-Term e) (get_or ls 0 0) z
     → Reaches (way x (take (length ls - 1) (drop 1 ls))) y y' found → y2 ≡ left_level (out-Term e) (get_or ls 0 0) y' → Reaches (way e ls) z y2 found
 reaches_steps e ls z y y' y2 x found l h i r g =
     subst (λ ks. Reaches (way e ks) z y2 found) (sym (steps_are ls l)) (reaches e (get_or ls 0 0) (take (length ls - 1) (drop 1 ls)) z y y' y2 x found h i r g)

@@ -1,5 +1,5 @@
 -- What holds at a focus, and when a term may stand in place of another there.
-use Rattle.std.specs.Prelude.{◌≡◌, ◌≢◌, ℕ, zero, suc, ◌≤◌, ◌<◌, List, [], ◌∷◌, length, map, get_or, true, IsOk, Ok, Option, Some, None, slice_get}
+use Rattle.std.specs.Prelude.{◌≡◌, ◌≢◌, ℕ, zero, suc, ◌≤◌, ◌<◌, List, [], ◌∷◌, length, map, get_or, Bool, true, ◌&&◌, IsOk, Ok, Option, Some, None, slice_get}
 use Rattle.std.specs.Option.{option_and_then, option_map}
 use Rattle.affine_index.specs.Condition.{all_hold}
 use Rattle.affine_index.specs.declared.form.Items.{Items}
@@ -13,7 +13,7 @@ use Rattle.shape_rules.specs.Values.{AllHaveValues, NoneNegative}
 use Rattle.term_tree.specs.Counts.{node_count}
 use Rattle.term_tree.specs.Goals.{term_goals}
 use Rattle.term_tree.specs.Meaning.{dims, den, Bound, no_bound, extents_of}
-use Rattle.term_tree.specs.Modules.{input_shapes}
+use Rattle.term_tree.specs.Modules.{extents_scoped, input_shapes}
 use Rattle.term_tree.specs.Scope.{term_scoped}
 use Rattle.term_tree.specs.Shape.{Extents, shape_of}
 use Rattle.term_tree.specs.declared.term.Module.{Module}
@@ -116,6 +116,11 @@ pub record IsFew (f : Focus) : Type 0 where
   pub lets : length f.shapes.lets ≤ 2147483647
   pub inputs : length f.shapes.inputs ≤ 2147483647
 
+-- the extents of shapes hold so many sizes alone
+abbrev pub shapes_scoped : ℕ → List Extents → Bool
+shapes_scoped sizes [] = true
+shapes_scoped sizes (ns ∷ ts) = extents_scoped sizes ns && shapes_scoped sizes ts
+
 -- what a rule may take of a focus
 pub record IsProper (f : Focus) : Type 0 where
   pub shaped : IsOk (shape_of f.term (given f.shapes))
@@ -127,6 +132,7 @@ pub record IsProper (f : Focus) : Type 0 where
   pub scoped : facts_scoped f.facts ≡ true
   pub term_scope : term_scoped (length f.facts.sizes) f.term (binders f.facts.path) (length (given f.shapes)) ≡ true
   pub free : all_free (given f.shapes) ≡ true
+  pub shapes : shapes_scoped (length f.facts.sizes) (given f.shapes) ≡ true
   pub lets : Each (λ b. b.var < length f.shapes.lets) f.bound
   pub apart : AllApart f.bound
   pub few : IsFew f

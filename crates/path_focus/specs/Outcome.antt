@@ -1,5 +1,6 @@
 -- What a call of a rule answers: the faults in their order.
-use Rattle.std.specs.Prelude.{All, IfOk, ◌≡◌, ◌≤◌, ◌<◌, ℕ, ◌+◌, ◌-◌, ◌^◌, List, [], ◌∷◌, length, get_or, Bool, true, false, nat_lt, nat_le, min, if◌then◌else◌, Option, Some, None, Result, Ok, Err}
+use Rattle.std.specs.Prelude.{All, IfOk, ◌≡◌, ◌≤◌, ◌<◌, ℕ, ◌+◌, ◌-◌, ◌^◌, List, [], ◌∷◌, length, get_or, Bool, true, false, nat_lt, nat_le, min, if◌then◌else◌}
+use Rattle.std.specs.Prelude.{Option, Some, None, Result, Ok, Err}
 use Rattle.affine_index.specs.declared.form.Items.{Items}
 use Rattle.fact_list.specs.Facts.{moves_fit}
 use Rattle.fact_list.specs.declared.facts.Facts.{Facts}
@@ -19,7 +20,8 @@ use Rattle.path_focus.specs.declared.outcome.Outcome.TheVariants.{NoPattern, Wro
 use Rattle.path_focus.specs.declared.rule.Arg.{Arg}
 use Rattle.path_focus.specs.declared.rule.Condition.{Condition}
 use Rattle.path_focus.specs.declared.rule.RuleFault.{RuleFault}
-use Rattle.path_focus.specs.declared.rule.RuleFault.TheVariants.{PatternMismatch, BadArgument, ExtraLines, ConditionNotShown, CoefficientTooLarge, IndexTooLong, TooManyNodes, Memory}
+use Rattle.path_focus.specs.declared.rule.RuleFault.TheVariants.{PatternMismatch, BadArgument, ExtraLines, ConditionNotShown, CoefficientTooLarge, IndexTooLong}
+use Rattle.path_focus.specs.declared.rule.RuleFault.TheVariants.{TooManyNodes, Memory}
 
 -- what the table of rules says of a focus and arguments; the forms of the result may break the limits
 pub data Meant : Type 0 where

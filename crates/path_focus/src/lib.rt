@@ -2,6 +2,7 @@
 #![tactic(auto)]
 
 pub mod laws;
+pub mod making;
 mod outcome;
 mod place;
 mod plugging;

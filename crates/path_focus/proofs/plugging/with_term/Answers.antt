@@ -10,4 +10,5 @@ returns c =
     let changed : c.in_ok-changed.changed ≡ record { name = c.index-declared-place.result.name; term = c.args.term } = search rules in
     let pushed : c.push.new.self ≡ c.in_ok-all.all ++ c.in_ok-changed.changed ∷ [] = search rules in
     let joined : c.append.new.self ≡ c.push.new.self ++ c.in_ok-outputs.field-0 = search rules in
-    with_joined c.args.declared.now c.args.place c.index-declared-place.result c.args.term c.in_ok-changed.changed c.in_ok-all.all c.in_ok-outputs.field-0 c.push.new.self c.append.new.self c.requires c.index-declared-place.is changed before after pushed joined
+    with_joined c.args.declared.now c.args.place c.index-declared-place.result c.args.term c.in_ok-changed.changed c.in_ok-all.all c.in_ok-outputs.field-0
+    c.push.new.self c.append.new.self c.requires c.index-declared-place.is changed before after pushed joined

@@ -13,4 +13,5 @@ found-requires c =
 pub returns-in-Some-clause-proper : goal.returns-in-Some-clause-proper
 returns-in-Some-clause-proper c =
     let there : IsThere (focus_of c.args.module.now c.args.path.now) c.found.result = search rules in
-    proper_there c.args.module.now c.args.path.now c.found.result c.requires.sound (subst (λ os. All HasOrdered os) c.as_slice.ensures c.told_outputs.ensures) c.requires.limited there
+    proper_there c.args.module.now c.args.path.now c.found.result c.requires.sound (subst (λ os. All HasOrdered os) c.as_slice.ensures c.told_outputs.ensures)
+    c.requires.limited there

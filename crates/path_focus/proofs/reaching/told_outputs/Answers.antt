@@ -8,4 +8,5 @@ use Rattle.path_focus.proofs.reaching.told_outputs.Goals as goal
 
 pub loop-output-preserved : goal.loop-output-preserved
 loop-output-preserved c =
-    before_more HasOrdered c.args.outputs.now c.loop-output.output-index c.output-item.result c.loop-output-test.true c.output-item.is (every_form-weaker is_normal is_ordered normal-ordered c.output-item.result.term c.told.ensures) c.loop-output.invariant
+    before_more HasOrdered c.args.outputs.now c.loop-output.output-index c.output-item.result c.loop-output-test.true c.output-item.is
+    (every_form-weaker is_normal is_ordered normal-ordered c.output-item.result.term c.told.ensures) c.loop-output.invariant

@@ -9,5 +9,6 @@ moved-requires-clause-within c = subst (λ n. IsWithinReach (shift_reach c.args.
 
 pub returns : goal.returns
 returns c =
-    let e : c.push.new.self ≡ c.args.self.now.bound ++ moved_let c.args.self.now c.args.a.now ∷ [] = cc (c.in_ok-push.ensures.ok, c.in_ok-term.ensures, c.len-var.ensures) in
+    let e : c.push.new.self ≡ c.args.self.now.bound ++ moved_let c.args.self.now c.args.a.now
+    ∷ [] = cc (c.in_ok-push.ensures.ok, c.in_ok-term.ensures, c.len-var.ensures) in
     λ i. record { path = c.args.self.now.path; shapes = c.args.self.now.shapes; over = c.args.self.now.over; bound = e i }
