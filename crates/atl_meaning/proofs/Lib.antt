@@ -16,6 +16,7 @@ pub mod ShapeCode
 pub mod SurveyCode
 pub mod SurveyExact
 pub mod SurveyLaws
+pub mod TensorCode
 pub mod TurnFold
 pub mod TurnLaws
 pub mod ValueLaws

@@ -1,16 +1,39 @@
 -- Answers that are made of another answer.
-use Rattle.std.proofs.Common.{◌≡◌, ap, subst, sym, ◌∙◌, Result, Ok, Err, IfOk, OnOk}
-use Rattle.atl_meaning.specs.Made.{IsMade}
+use Rattle.std.proofs.Common.{◌≡◌, List, ap, subst, sym, ◌∙◌, Result, Ok, Err, IfOk, OnOk}
+use Rattle.term_tree.specs.Tensors.{Tensor}
+use Rattle.atl_meaning.specs.Made.{IsMade, IsOf}
+use Rattle.atl_meaning.specs.Values.{meant}
+use Rattle.atl_meaning.specs.declared.binding.Binding.{Binding}
+use Rattle.atl_meaning.specs.declared.tensor.Tensor.{Tensor as Value}
 
 module _ {A B E : Type 0} (f : A → B) where
   pub made-value : (before : Result A E) (after : Result B E) (x : A) → IsMade f before after → IfOk before (λ a. a ≡ x) → IfOk after (λ b. b ≡ f x)
   made-value before (Ok b) x m h = m.2 ∙ ap f (subst (λ (r : Result A E). IfOk r (λ a. a ≡ x)) m.1 h)
   made-value before (Err e) x m h = tt
 
+module _ {A B E : Type 0} (P : A → B → Type 0) where
   -- what holds where there was an answer holds where there is one
-  pub made-kept : (P : Type 0) (before : Result A E) (after : Result B E) → IsMade f before after → OnOk before P → OnOk after P
-  made-kept P before (Ok b) m h = subst (λ (r : Result A E). OnOk r P) m.1 h
-  made-kept P before (Err e) m h = tt
+  pub of-kept : (Q : Type 0) (before : Result A E) (after : Result B E) → IsOf P before after → OnOk before Q → OnOk after Q
+  of-kept Q before (Ok b) m h = subst (λ (r : Result A E). OnOk r Q) m.1 h
+  of-kept Q before (Err e) m h = tt
+
+module _ {A B E : Type 0} (f : A → B) where
+  pub made-kept : (Q : Type 0) (before : Result A E) (after : Result B E) → IsMade f before after → OnOk before Q → OnOk after Q
+  made-kept = of-kept (λ a b. b ≡ f a)
+
+-- one equation after another
+pub both-kept : {T E X : Type 0} (r : Result T E) (a b c : X) → OnOk r (a ≡ b) → OnOk r (b ≡ c) → OnOk r (a ≡ c)
+both-kept (Ok x) a b c p q = p ∙ q
+both-kept (Err e) a b c p q = tt
+
+-- a tensor that is made of another under bindings that were kept
+pub of-meant : {E : Type 0} (f : List Binding → Tensor → Tensor) (more bs : List Binding) (before after : Result Value E) (x : Tensor)
+    → IsOf (λ c v. meant v ≡ f more (meant c)) before after → OnOk before (more ≡ bs) → IfOk before (λ c. meant c ≡ x) → IfOk after (λ v. meant v ≡ f bs x)
+of-meant {E} f more bs before (Ok v) x m k h =
+    let kept : more ≡ bs = subst (λ (r : Result Value E). OnOk r (more ≡ bs)) m.1 k in
+    let child : meant m.0 ≡ x = subst (λ (r : Result Value E). IfOk r (λ c. meant c ≡ x)) m.1 h in
+    m.2 ∙ (λ i. f (kept i) (child i))
+of-meant f more bs before (Err e) x m k h = tt
 
 -- a fact of the one answer there can be
 pub below_fits : {A E : Type 0} (P : A → Type 0) (r : Result A E) (x : A) → IfOk r (λ a. a ≡ x) → P x → IfOk r P

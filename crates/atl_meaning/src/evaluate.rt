@@ -9,6 +9,7 @@ ghost use Rattle.term_tree.specs.Meaning.{chunks, columns, extent, head_of, row_
 ghost use Rattle.atl_meaning.specs.Denoted.{body_in, extents_in, fits_in, tensor_in};
 ghost use Rattle.atl_meaning.specs.Operations.{on_words};
 ghost use Rattle.atl_meaning.specs.Exact.{all_exact, counted, exact, exact_below, is_counted, is_exact};
+ghost use Rattle.atl_meaning.specs.Made.{IsOf};
 ghost use Rattle.atl_meaning.specs.Values.{meant};
 
 use crate::binding::Binding;
@@ -90,21 +91,30 @@ fn row_or_zeros(
     }
 }
 
+/// The rows of the rows of a tensor.
+fn flattened(alloc: Global, child: Result<Tensor, AllocError>) -> Result<Tensor, AllocError>
+    ensures { IsOf (λ c v. meant v ≡ from_rows (joined (rows_of (meant c)))) child result }
+{
+    let tensor = child?;
+    flatten(alloc, &tensor)
+}
+
 /// The tensor of a term in chunks of k rows.
 fn chunked(
     alloc: Global,
     sizes: &[u64],
+    child: Result<Tensor, AllocError>,
     bindings: &mut Stack<Binding>,
     k: u32,
     term: &Term,
-    tensor: &Tensor,
 ) -> Result<Tensor, AllocError>
     requires counted { counted sizes.now term.now ≡ true }
-    requires fits { fits_in sizes.now term.now bindings.old ≡ true }
+    requires fits { OnOk child (fits_in sizes.now term.now bindings.old ≡ true) }
     requires positive { 0 < k }
-    ensures value { IfOk result (λ v. meant v ≡ from_rows (chunks ((head_of (extents_in sizes.now term.now bindings.old) + k - 1) / k) k (zeros (tail_of (extents_in sizes.now term.now bindings.old))) (rows_of (meant tensor.now)))) }
+    ensures value { IsOf (λ c v. meant v ≡ from_rows (chunks ((head_of (extents_in sizes.now term.now bindings.old) + k - 1) / k) k (zeros (tail_of (extents_in sizes.now term.now bindings.old))) (rows_of (meant c)))) child result }
     ensures bindings { OnOk result (bindings.new ≡ bindings.old) }
 {
+    let tensor = child?;
     let found = extents(alloc, sizes, bindings, term)?;
     let count = chunk_count(head_of(found.as_slice()), k);
     split(
@@ -112,7 +122,7 @@ fn chunked(
         count,
         u64::from(k),
         tail_of(found.as_slice()),
-        tensor,
+        &tensor,
     )
 }
 
@@ -120,61 +130,65 @@ fn chunked(
 fn transposed(
     alloc: Global,
     sizes: &[u64],
+    child: Result<Tensor, AllocError>,
     bindings: &mut Stack<Binding>,
     term: &Term,
-    tensor: &Tensor,
 ) -> Result<Tensor, AllocError>
     requires counted { counted sizes.now term.now ≡ true }
-    requires fits { fits_in sizes.now term.now bindings.old ≡ true }
-    ensures value { IfOk result (λ v. meant v ≡ from_rows (columns (head_of (tail_of (extents_in sizes.now term.now bindings.old))) (zeros (tail_of (tail_of (extents_in sizes.now term.now bindings.old)))) (rows_of (meant tensor.now)))) }
+    requires fits { OnOk child (fits_in sizes.now term.now bindings.old ≡ true) }
+    ensures value { IsOf (λ c v. meant v ≡ from_rows (columns (head_of (tail_of (extents_in sizes.now term.now bindings.old))) (zeros (tail_of (tail_of (extents_in sizes.now term.now bindings.old)))) (rows_of (meant c)))) child result }
     ensures bindings { OnOk result (bindings.new ≡ bindings.old) }
 {
+    let tensor = child?;
     let found = extents(alloc, sizes, bindings, term)?;
     let rest = tail_of(found.as_slice());
-    transpose(alloc, head_of(rest), tail_of(rest), tensor)
+    transpose(alloc, head_of(rest), tail_of(rest), &tensor)
 }
 
 /// All but the first rows.
 fn shortened_first(
     alloc: Global,
     sizes: &[u64],
+    child: Result<Tensor, AllocError>,
     count: &Aff,
-    tensor: &Tensor,
 ) -> Result<Tensor, AllocError>
     requires { IsTrue (is_counted sizes.now count.now) }
-    ensures { IfOk result (λ v. meant v ≡ from_rows (drop (extent count.now sizes.now) (rows_of (meant tensor.now)))) }
+    ensures { IsOf (λ c v. meant v ≡ from_rows (drop (extent count.now sizes.now) (rows_of (meant c)))) child result }
 {
-    without_first(alloc, extent(count, sizes), tensor)
+    let tensor = child?;
+    without_first(alloc, extent(count, sizes), &tensor)
 }
 
 /// All but the last rows.
 fn shortened_last(
     alloc: Global,
     sizes: &[u64],
+    child: Result<Tensor, AllocError>,
     count: &Aff,
-    tensor: &Tensor,
 ) -> Result<Tensor, AllocError>
     requires { IsTrue (is_counted sizes.now count.now) }
-    ensures { IfOk result (λ v. meant v ≡ from_rows (drop_last (extent count.now sizes.now) (rows_of (meant tensor.now)))) }
+    ensures { IsOf (λ c v. meant v ≡ from_rows (drop_last (extent count.now sizes.now) (rows_of (meant c)))) child result }
 {
-    without_last(alloc, extent(count, sizes), tensor)
+    let tensor = child?;
+    without_last(alloc, extent(count, sizes), &tensor)
 }
 
 /// Zero rows before the tensor of a term.
 fn padded_before(
     alloc: Global,
     sizes: &[u64],
+    child: Result<Tensor, AllocError>,
     bindings: &mut Stack<Binding>,
     count: &Aff,
     term: &Term,
-    tensor: Tensor,
 ) -> Result<Tensor, AllocError>
     requires count { IsTrue (is_counted sizes.now count.now) }
     requires counted { counted sizes.now term.now ≡ true }
-    requires fits { fits_in sizes.now term.now bindings.old ≡ true }
-    ensures value { IfOk result (λ v. meant v ≡ from_rows (copies (extent count.now sizes.now) (zeros (tail_of (extents_in sizes.now term.now bindings.old))) ++ rows_of (meant tensor))) }
+    requires fits { OnOk child (fits_in sizes.now term.now bindings.old ≡ true) }
+    ensures value { IsOf (λ c v. meant v ≡ from_rows (copies (extent count.now sizes.now) (zeros (tail_of (extents_in sizes.now term.now bindings.old))) ++ rows_of (meant c))) child result }
     ensures bindings { OnOk result (bindings.new ≡ bindings.old) }
 {
+    let tensor = child?;
     let found = extents(alloc, sizes, bindings, term)?;
     zeros_before(
         alloc,
@@ -188,17 +202,18 @@ fn padded_before(
 fn padded_behind(
     alloc: Global,
     sizes: &[u64],
+    child: Result<Tensor, AllocError>,
     bindings: &mut Stack<Binding>,
     count: &Aff,
     term: &Term,
-    tensor: Tensor,
 ) -> Result<Tensor, AllocError>
     requires count { IsTrue (is_counted sizes.now count.now) }
     requires counted { counted sizes.now term.now ≡ true }
-    requires fits { fits_in sizes.now term.now bindings.old ≡ true }
-    ensures value { IfOk result (λ v. meant v ≡ from_rows (rows_of (meant tensor) ++ copies (extent count.now sizes.now) (zeros (tail_of (extents_in sizes.now term.now bindings.old))))) }
+    requires fits { OnOk child (fits_in sizes.now term.now bindings.old ≡ true) }
+    ensures value { IsOf (λ c v. meant v ≡ from_rows (rows_of (meant c) ++ copies (extent count.now sizes.now) (zeros (tail_of (extents_in sizes.now term.now bindings.old))))) child result }
     ensures bindings { OnOk result (bindings.new ≡ bindings.old) }
 {
+    let tensor = child?;
     let found = extents(alloc, sizes, bindings, term)?;
     zeros_behind(
         alloc,
@@ -484,33 +499,49 @@ pub fn evaluate(
             let first = evaluate(alloc, sizes, vars, bindings, a.get())?;
             followed_by(alloc, sizes, vars, bindings, b.get(), first)
         }
-        Term::Flatten(e) => {
-            let tensor = evaluate(alloc, sizes, vars, bindings, e.get())?;
-            flatten(alloc, &tensor)
-        }
-        Term::Split(k, e) => {
-            let tensor = evaluate(alloc, sizes, vars, bindings, e.get())?;
-            chunked(alloc, sizes, bindings, *k, e.get(), &tensor)
-        }
-        Term::Transpose(e) => {
-            let tensor = evaluate(alloc, sizes, vars, bindings, e.get())?;
-            transposed(alloc, sizes, bindings, e.get(), &tensor)
-        }
-        Term::TruncL(n, e) => {
-            let tensor = evaluate(alloc, sizes, vars, bindings, e.get())?;
-            shortened_first(alloc, sizes, n, &tensor)
-        }
-        Term::TruncR(n, e) => {
-            let tensor = evaluate(alloc, sizes, vars, bindings, e.get())?;
-            shortened_last(alloc, sizes, n, &tensor)
-        }
-        Term::PadL(n, e) => {
-            let tensor = evaluate(alloc, sizes, vars, bindings, e.get())?;
-            padded_before(alloc, sizes, bindings, n, e.get(), tensor)
-        }
-        Term::PadR(n, e) => {
-            let tensor = evaluate(alloc, sizes, vars, bindings, e.get())?;
-            padded_behind(alloc, sizes, bindings, n, e.get(), tensor)
-        }
+        Term::Flatten(e) => flattened(alloc, evaluate(alloc, sizes, vars, bindings, e.get())),
+        Term::Split(k, e) => chunked(
+            alloc,
+            sizes,
+            evaluate(alloc, sizes, vars, bindings, e.get()),
+            bindings,
+            *k,
+            e.get(),
+        ),
+        Term::Transpose(e) => transposed(
+            alloc,
+            sizes,
+            evaluate(alloc, sizes, vars, bindings, e.get()),
+            bindings,
+            e.get(),
+        ),
+        Term::TruncL(n, e) => shortened_first(
+            alloc,
+            sizes,
+            evaluate(alloc, sizes, vars, bindings, e.get()),
+            n,
+        ),
+        Term::TruncR(n, e) => shortened_last(
+            alloc,
+            sizes,
+            evaluate(alloc, sizes, vars, bindings, e.get()),
+            n,
+        ),
+        Term::PadL(n, e) => padded_before(
+            alloc,
+            sizes,
+            evaluate(alloc, sizes, vars, bindings, e.get()),
+            bindings,
+            n,
+            e.get(),
+        ),
+        Term::PadR(n, e) => padded_behind(
+            alloc,
+            sizes,
+            evaluate(alloc, sizes, vars, bindings, e.get()),
+            bindings,
+            n,
+            e.get(),
+        ),
     }
 }

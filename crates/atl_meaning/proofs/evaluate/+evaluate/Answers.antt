@@ -1,16 +1,20 @@
-use Rattle.std.proofs.Common.{◌≡◌, ◌∙◌, ◌∷◌, ◌++◌, ◌+◌, ◌-◌, ◌<◌, [], IfOk, List, ℕ, ap, arith, map, rules, subst, sym, true}
+use Rattle.std.proofs.Common.{◌≡◌, ◌/◌, drop, ◌∙◌, ◌∷◌, ◌++◌, ◌+◌, ◌-◌, ◌<◌, [], IfOk, List, ℕ, ap, arith, map, rules, subst, sym, true}
 use Rattle.term_tree.specs.declared.term.Term.{Term}
 use Rattle.term_tree.specs.declared.term.Term.TheViews.{the_lemmas}
 use Rattle.affine_index.specs.Value.{items_value}
-use Rattle.term_tree.specs.Meaning.{extent, extents_of, word_of}
-use Rattle.term_tree.specs.Tensors.{Tensor, Word, from_rows, plus_places, tabulate, total, zeros}
+use Rattle.std.proofs.lemmas.Result.{IfOk-weaker}
+use Rattle.term_tree.specs.Meaning.{chunks, columns, extent, extents_of, head_of, tail_of, word_of}
+use Rattle.term_tree.specs.Tensors.{Tensor, Word, copies, drop_last, from_rows, joined, plus_places, rows_of, tabulate, total, zeros}
 use Rattle.atl_meaning.specs.Denoted.{body_in, denoted, extents_in, fits_in, scope, tensor_in}
 use Rattle.atl_meaning.specs.Lists.{rest_of}
 use Rattle.atl_meaning.specs.Exact.{counted, exact, exact_below}
 use Rattle.atl_meaning.specs.Values.{meant}
+use Rattle.atl_meaning.specs.declared.tensor.Tensor.{Tensor as Value}
 use Rattle.atl_meaning.proofs.CodeLaws.{counted-Flatten, exact-Flatten, counted-Guard, counted-Index, denoted-Gen, denoted-Sum, denoted-WordOf, exact-Guard, exact-Index, exact-Let, counted-Let, exact-Add, counted-Add, exact-Sub, counted-Sub, exact-Mul, counted-Mul, exact-Concat, counted-Concat, counted-Split, exact-Gen, exact-Sum, exact-TruncL, exact-TruncR, exact-PadL, exact-PadR, counted-Gen, counted-Sum, counted-TruncL, counted-TruncR, counted-PadL, counted-PadR}
 use Rattle.atl_meaning.proofs.ExactLaws.{below-at}
-use Rattle.atl_meaning.proofs.FitLaws.{fits-Index, fits-Gen, fits-Sum, fits-Guard, fits-Let, fits-Add, fits-Sub, fits-Mul, fits-Concat, fits-Flatten, fits-Split, fits-TruncL, fits-TruncR, fits-PadL, fits-PadR}
+use Rattle.atl_meaning.proofs.FitLaws.{fits-Index, fits-Gen, fits-Sum, fits-Guard, fits-Let, fits-Add, fits-Sub, fits-Mul, fits-Concat, fits-Flatten, fits-Split, fits-Transpose, fits-TruncL, fits-TruncR, fits-PadL, fits-PadR}
+use Rattle.atl_meaning.proofs.MadeLaws.{both-kept, of-kept, of-meant}
+use Rattle.atl_meaning.proofs.TensorCode.{tensor-Flatten, tensor-Split, tensor-Transpose, tensor-TruncL, tensor-TruncR, tensor-PadL, tensor-PadR}
 use Rattle.atl_meaning.proofs.ListLaws.{map-last, tabulate-last, total-next}
 use Rattle.atl_meaning.proofs.ValueLaws.{meant-Row}
 use Rattle.atl_meaning.proofs.evaluate.+evaluate.Goals as goal
@@ -88,23 +92,11 @@ evaluate-padded_before-requires-clause-counted t c =
     let p = counted-PadL s c.args.term.now c.in-PadL.n c.in-PadL.e c.in-PadL.is c.requires.counted in
     subst (λ (e : Term). counted s e ≡ true) (sym c.get-in-PadL-2.ensures) p.1
 
-pub evaluate-padded_before-requires-clause-fits : goal.evaluate-padded_before-requires-clause-fits
-evaluate-padded_before-requires-clause-fits t c =
-    let s = c.args.sizes.now in
-    let f = fits-PadL s (extents_of (scope c.args.bindings.now)) c.args.term.now c.in-PadL.n c.in-PadL.e c.in-PadL.is c.requires.fits in
-    (λ i. fits_in s (c.get-in-PadL-2.ensures i) (c.in_ok-tensor-in-PadL.ensures.bindings i)) ∙ f.0
-
 pub evaluate-padded_behind-requires-clause-counted : goal.evaluate-padded_behind-requires-clause-counted
 evaluate-padded_behind-requires-clause-counted t c =
     let s = c.args.sizes.now in
     let p = counted-PadR s c.args.term.now c.in-PadR.n c.in-PadR.e c.in-PadR.is c.requires.counted in
     subst (λ (e : Term). counted s e ≡ true) (sym c.get-in-PadR-2.ensures) p.1
-
-pub evaluate-padded_behind-requires-clause-fits : goal.evaluate-padded_behind-requires-clause-fits
-evaluate-padded_behind-requires-clause-fits t c =
-    let s = c.args.sizes.now in
-    let f = fits-PadR s (extents_of (scope c.args.bindings.now)) c.args.term.now c.in-PadR.n c.in-PadR.e c.in-PadR.is c.requires.fits in
-    (λ i. fits_in s (c.get-in-PadR-2.ensures i) (c.in_ok-tensor-in-PadR.ensures.bindings i)) ∙ f.0
 
 pub evaluate-returns-in-Sum-clause-value : goal.evaluate-returns-in-Sum-clause-value
 evaluate-returns-in-Sum-clause-value t c =
@@ -182,12 +174,6 @@ evaluate-chunked-requires-clause-counted t c =
     let s = c.args.sizes.now in
     let p = counted-Split s c.args.term.now c.in-Split.k c.in-Split.e c.in-Split.is c.requires.counted in
     subst (λ (e : Term). counted s e ≡ true) (sym c.get-in-Split-2.ensures) p.1
-
-pub evaluate-chunked-requires-clause-fits : goal.evaluate-chunked-requires-clause-fits
-evaluate-chunked-requires-clause-fits t c =
-    let s = c.args.sizes.now in
-    let f = fits-Split s (extents_of (scope c.args.bindings.now)) c.args.term.now c.in-Split.k c.in-Split.e c.in-Split.is c.requires.fits in
-    (λ i. fits_in s (c.get-in-Split-2.ensures i) (c.in_ok-tensor-in-Split.ensures.bindings i)) ∙ f
 
 pub evaluate-returns-in_ok-all-in-Gen-clause-value : goal.evaluate-returns-in_ok-all-in-Gen-clause-value
 evaluate-returns-in_ok-all-in-Gen-clause-value t c =
@@ -360,3 +346,156 @@ evaluate-evaluate-requires-in-Flatten t c =
     let q = exact-Flatten s c.args.term.now c.in-Flatten.e c.args.vars.now c.in-Flatten.is c.requires.exact in
     let child = sym c.get-in-Flatten.ensures in
     (search (rules, the_lemmas), (subst (λ (e : Term). counted s e ≡ true) child p, (subst (λ (e : Term). fits_in s e c.args.bindings.now ≡ true) child f.0, subst (λ (e : Term). exact s e c.args.vars.now ≡ true) child q)))
+
+pub evaluate-returns-in-Flatten-clause-value : goal.evaluate-returns-in-Flatten-clause-value
+evaluate-returns-in-Flatten-clause-value t c =
+    let s = c.args.sizes.now in
+    let r = c.args.vars.now in
+    let bs = c.args.bindings.now in
+    let child : IfOk c.evaluate-in-Flatten.result (λ v. meant v ≡ (tensor_in s c.in-Flatten.e r bs)) = subst (λ (e : Term). IfOk c.evaluate-in-Flatten.result (λ v. meant v ≡ tensor_in s e r bs)) c.get-in-Flatten.ensures c.evaluate-in-Flatten.ensures.value in
+    let made = of-meant (λ bs t. from_rows (joined (rows_of t))) c.evaluate-in-Flatten.new.bindings bs c.evaluate-in-Flatten.result c.flattened.result (tensor_in s c.in-Flatten.e r bs) c.flattened.ensures c.evaluate-in-Flatten.ensures.bindings child in
+    subst (λ (y : Tensor). IfOk c.flattened.result (λ v. meant v ≡ y)) (sym (tensor-Flatten s r (scope bs) c.args.term.now c.in-Flatten.e c.in-Flatten.is)) made
+
+pub evaluate-returns-in-Flatten-clause-vars : goal.evaluate-returns-in-Flatten-clause-vars
+evaluate-returns-in-Flatten-clause-vars t c =
+    let s = c.args.sizes.now in
+    of-kept (λ (d : Value). λ (v : Value). meant v ≡ from_rows (joined (rows_of (meant d)))) (c.evaluate-in-Flatten.new.vars ≡ c.args.vars.now) c.evaluate-in-Flatten.result c.flattened.result c.flattened.ensures c.evaluate-in-Flatten.ensures.vars
+
+pub evaluate-returns-in-Flatten-clause-bindings : goal.evaluate-returns-in-Flatten-clause-bindings
+evaluate-returns-in-Flatten-clause-bindings t c =
+    let s = c.args.sizes.now in
+    of-kept (λ (d : Value). λ (v : Value). meant v ≡ from_rows (joined (rows_of (meant d)))) (c.evaluate-in-Flatten.new.bindings ≡ c.args.bindings.now) c.evaluate-in-Flatten.result c.flattened.result c.flattened.ensures c.evaluate-in-Flatten.ensures.bindings
+
+pub evaluate-returns-in-Split-clause-value : goal.evaluate-returns-in-Split-clause-value
+evaluate-returns-in-Split-clause-value t c =
+    let s = c.args.sizes.now in
+    let r = c.args.vars.now in
+    let bs = c.args.bindings.now in
+    let child : IfOk c.evaluate-in-Split.result (λ v. meant v ≡ (tensor_in s c.in-Split.e r bs)) = subst (λ (e : Term). IfOk c.evaluate-in-Split.result (λ v. meant v ≡ tensor_in s e r bs)) c.get-in-Split.ensures c.evaluate-in-Split.ensures.value in
+    let made = of-meant (λ bs t. from_rows (chunks ((head_of (extents_in s c.get-in-Split-2.result.now bs) + c.in-Split.k - 1) / c.in-Split.k) c.in-Split.k (zeros (tail_of (extents_in s c.get-in-Split-2.result.now bs))) (rows_of t))) c.evaluate-in-Split.new.bindings bs c.evaluate-in-Split.result c.chunked.result (tensor_in s c.in-Split.e r bs) c.chunked.ensures.value c.evaluate-in-Split.ensures.bindings child in
+    subst (λ (y : Tensor). IfOk c.chunked.result (λ v. meant v ≡ y)) (ap (λ e. from_rows (chunks ((head_of (extents_in s e bs) + c.in-Split.k - 1) / c.in-Split.k) c.in-Split.k (zeros (tail_of (extents_in s e bs))) (rows_of (tensor_in s c.in-Split.e r bs)))) c.get-in-Split-2.ensures ∙ sym (tensor-Split s r (scope bs) c.args.term.now c.in-Split.k c.in-Split.e c.in-Split.is)) made
+
+pub evaluate-returns-in-Split-clause-vars : goal.evaluate-returns-in-Split-clause-vars
+evaluate-returns-in-Split-clause-vars t c =
+    let s = c.args.sizes.now in
+    of-kept (λ (d : Value). λ (v : Value). meant v ≡ from_rows (chunks ((head_of (extents_in s c.get-in-Split-2.result.now c.evaluate-in-Split.new.bindings) + c.in-Split.k - 1) / c.in-Split.k) c.in-Split.k (zeros (tail_of (extents_in s c.get-in-Split-2.result.now c.evaluate-in-Split.new.bindings))) (rows_of (meant d)))) (c.evaluate-in-Split.new.vars ≡ c.args.vars.now) c.evaluate-in-Split.result c.chunked.result c.chunked.ensures.value c.evaluate-in-Split.ensures.vars
+
+pub evaluate-returns-in-Split-clause-bindings : goal.evaluate-returns-in-Split-clause-bindings
+evaluate-returns-in-Split-clause-bindings t c =
+    let s = c.args.sizes.now in
+    both-kept c.chunked.result c.chunked.new.bindings c.evaluate-in-Split.new.bindings c.args.bindings.now c.chunked.ensures.bindings (of-kept (λ (d : Value). λ (v : Value). meant v ≡ from_rows (chunks ((head_of (extents_in s c.get-in-Split-2.result.now c.evaluate-in-Split.new.bindings) + c.in-Split.k - 1) / c.in-Split.k) c.in-Split.k (zeros (tail_of (extents_in s c.get-in-Split-2.result.now c.evaluate-in-Split.new.bindings))) (rows_of (meant d)))) (c.evaluate-in-Split.new.bindings ≡ c.args.bindings.now) c.evaluate-in-Split.result c.chunked.result c.chunked.ensures.value c.evaluate-in-Split.ensures.bindings)
+
+pub evaluate-chunked-requires-clause-fits : goal.evaluate-chunked-requires-clause-fits
+evaluate-chunked-requires-clause-fits t c =
+    let s = c.args.sizes.now in
+    IfOk-weaker c.evaluate-in-Split.result _ _ (λ v kept. (λ i. fits_in s (c.get-in-Split-2.ensures i) (kept i)) ∙ fits-Split s (extents_of (scope c.args.bindings.now)) c.args.term.now c.in-Split.k c.in-Split.e c.in-Split.is c.requires.fits) c.evaluate-in-Split.ensures.bindings
+
+pub evaluate-returns-in-Transpose-clause-value : goal.evaluate-returns-in-Transpose-clause-value
+evaluate-returns-in-Transpose-clause-value t c =
+    let s = c.args.sizes.now in
+    let r = c.args.vars.now in
+    let bs = c.args.bindings.now in
+    let child : IfOk c.evaluate-in-Transpose.result (λ v. meant v ≡ (tensor_in s c.in-Transpose.e r bs)) = subst (λ (e : Term). IfOk c.evaluate-in-Transpose.result (λ v. meant v ≡ tensor_in s e r bs)) c.get-in-Transpose.ensures c.evaluate-in-Transpose.ensures.value in
+    let made = of-meant (λ bs t. from_rows (columns (head_of (tail_of (extents_in s c.get-in-Transpose-2.result.now bs))) (zeros (tail_of (tail_of (extents_in s c.get-in-Transpose-2.result.now bs)))) (rows_of t))) c.evaluate-in-Transpose.new.bindings bs c.evaluate-in-Transpose.result c.transposed.result (tensor_in s c.in-Transpose.e r bs) c.transposed.ensures.value c.evaluate-in-Transpose.ensures.bindings child in
+    subst (λ (y : Tensor). IfOk c.transposed.result (λ v. meant v ≡ y)) (ap (λ e. from_rows (columns (head_of (tail_of (extents_in s e bs))) (zeros (tail_of (tail_of (extents_in s e bs)))) (rows_of (tensor_in s c.in-Transpose.e r bs)))) c.get-in-Transpose-2.ensures ∙ sym (tensor-Transpose s r (scope bs) c.args.term.now c.in-Transpose.e c.in-Transpose.is)) made
+
+pub evaluate-returns-in-Transpose-clause-vars : goal.evaluate-returns-in-Transpose-clause-vars
+evaluate-returns-in-Transpose-clause-vars t c =
+    let s = c.args.sizes.now in
+    of-kept (λ (d : Value). λ (v : Value). meant v ≡ from_rows (columns (head_of (tail_of (extents_in s c.get-in-Transpose-2.result.now c.evaluate-in-Transpose.new.bindings))) (zeros (tail_of (tail_of (extents_in s c.get-in-Transpose-2.result.now c.evaluate-in-Transpose.new.bindings)))) (rows_of (meant d)))) (c.evaluate-in-Transpose.new.vars ≡ c.args.vars.now) c.evaluate-in-Transpose.result c.transposed.result c.transposed.ensures.value c.evaluate-in-Transpose.ensures.vars
+
+pub evaluate-returns-in-Transpose-clause-bindings : goal.evaluate-returns-in-Transpose-clause-bindings
+evaluate-returns-in-Transpose-clause-bindings t c =
+    let s = c.args.sizes.now in
+    both-kept c.transposed.result c.transposed.new.bindings c.evaluate-in-Transpose.new.bindings c.args.bindings.now c.transposed.ensures.bindings (of-kept (λ (d : Value). λ (v : Value). meant v ≡ from_rows (columns (head_of (tail_of (extents_in s c.get-in-Transpose-2.result.now c.evaluate-in-Transpose.new.bindings))) (zeros (tail_of (tail_of (extents_in s c.get-in-Transpose-2.result.now c.evaluate-in-Transpose.new.bindings)))) (rows_of (meant d)))) (c.evaluate-in-Transpose.new.bindings ≡ c.args.bindings.now) c.evaluate-in-Transpose.result c.transposed.result c.transposed.ensures.value c.evaluate-in-Transpose.ensures.bindings)
+
+pub evaluate-transposed-requires-clause-fits : goal.evaluate-transposed-requires-clause-fits
+evaluate-transposed-requires-clause-fits t c =
+    let s = c.args.sizes.now in
+    IfOk-weaker c.evaluate-in-Transpose.result _ _ (λ v kept. (λ i. fits_in s (c.get-in-Transpose-2.ensures i) (kept i)) ∙ fits-Transpose s (extents_of (scope c.args.bindings.now)) c.args.term.now c.in-Transpose.e c.in-Transpose.is c.requires.fits) c.evaluate-in-Transpose.ensures.bindings
+
+pub evaluate-returns-in-TruncL-clause-value : goal.evaluate-returns-in-TruncL-clause-value
+evaluate-returns-in-TruncL-clause-value t c =
+    let s = c.args.sizes.now in
+    let r = c.args.vars.now in
+    let bs = c.args.bindings.now in
+    let child : IfOk c.evaluate-in-TruncL.result (λ v. meant v ≡ (tensor_in s c.in-TruncL.e r bs)) = subst (λ (e : Term). IfOk c.evaluate-in-TruncL.result (λ v. meant v ≡ tensor_in s e r bs)) c.get-in-TruncL.ensures c.evaluate-in-TruncL.ensures.value in
+    let made = of-meant (λ bs t. from_rows (drop (extent c.in-TruncL.n s) (rows_of t))) c.evaluate-in-TruncL.new.bindings bs c.evaluate-in-TruncL.result c.shortened_first.result (tensor_in s c.in-TruncL.e r bs) c.shortened_first.ensures c.evaluate-in-TruncL.ensures.bindings child in
+    subst (λ (y : Tensor). IfOk c.shortened_first.result (λ v. meant v ≡ y)) (sym (tensor-TruncL s r (scope bs) c.args.term.now c.in-TruncL.n c.in-TruncL.e c.in-TruncL.is)) made
+
+pub evaluate-returns-in-TruncL-clause-vars : goal.evaluate-returns-in-TruncL-clause-vars
+evaluate-returns-in-TruncL-clause-vars t c =
+    let s = c.args.sizes.now in
+    of-kept (λ (d : Value). λ (v : Value). meant v ≡ from_rows (drop (extent c.in-TruncL.n s) (rows_of (meant d)))) (c.evaluate-in-TruncL.new.vars ≡ c.args.vars.now) c.evaluate-in-TruncL.result c.shortened_first.result c.shortened_first.ensures c.evaluate-in-TruncL.ensures.vars
+
+pub evaluate-returns-in-TruncL-clause-bindings : goal.evaluate-returns-in-TruncL-clause-bindings
+evaluate-returns-in-TruncL-clause-bindings t c =
+    let s = c.args.sizes.now in
+    of-kept (λ (d : Value). λ (v : Value). meant v ≡ from_rows (drop (extent c.in-TruncL.n s) (rows_of (meant d)))) (c.evaluate-in-TruncL.new.bindings ≡ c.args.bindings.now) c.evaluate-in-TruncL.result c.shortened_first.result c.shortened_first.ensures c.evaluate-in-TruncL.ensures.bindings
+
+pub evaluate-returns-in-TruncR-clause-value : goal.evaluate-returns-in-TruncR-clause-value
+evaluate-returns-in-TruncR-clause-value t c =
+    let s = c.args.sizes.now in
+    let r = c.args.vars.now in
+    let bs = c.args.bindings.now in
+    let child : IfOk c.evaluate-in-TruncR.result (λ v. meant v ≡ (tensor_in s c.in-TruncR.e r bs)) = subst (λ (e : Term). IfOk c.evaluate-in-TruncR.result (λ v. meant v ≡ tensor_in s e r bs)) c.get-in-TruncR.ensures c.evaluate-in-TruncR.ensures.value in
+    let made = of-meant (λ bs t. from_rows (drop_last (extent c.in-TruncR.n s) (rows_of t))) c.evaluate-in-TruncR.new.bindings bs c.evaluate-in-TruncR.result c.shortened_last.result (tensor_in s c.in-TruncR.e r bs) c.shortened_last.ensures c.evaluate-in-TruncR.ensures.bindings child in
+    subst (λ (y : Tensor). IfOk c.shortened_last.result (λ v. meant v ≡ y)) (sym (tensor-TruncR s r (scope bs) c.args.term.now c.in-TruncR.n c.in-TruncR.e c.in-TruncR.is)) made
+
+pub evaluate-returns-in-TruncR-clause-vars : goal.evaluate-returns-in-TruncR-clause-vars
+evaluate-returns-in-TruncR-clause-vars t c =
+    let s = c.args.sizes.now in
+    of-kept (λ (d : Value). λ (v : Value). meant v ≡ from_rows (drop_last (extent c.in-TruncR.n s) (rows_of (meant d)))) (c.evaluate-in-TruncR.new.vars ≡ c.args.vars.now) c.evaluate-in-TruncR.result c.shortened_last.result c.shortened_last.ensures c.evaluate-in-TruncR.ensures.vars
+
+pub evaluate-returns-in-TruncR-clause-bindings : goal.evaluate-returns-in-TruncR-clause-bindings
+evaluate-returns-in-TruncR-clause-bindings t c =
+    let s = c.args.sizes.now in
+    of-kept (λ (d : Value). λ (v : Value). meant v ≡ from_rows (drop_last (extent c.in-TruncR.n s) (rows_of (meant d)))) (c.evaluate-in-TruncR.new.bindings ≡ c.args.bindings.now) c.evaluate-in-TruncR.result c.shortened_last.result c.shortened_last.ensures c.evaluate-in-TruncR.ensures.bindings
+
+pub evaluate-returns-in-PadL-clause-value : goal.evaluate-returns-in-PadL-clause-value
+evaluate-returns-in-PadL-clause-value t c =
+    let s = c.args.sizes.now in
+    let r = c.args.vars.now in
+    let bs = c.args.bindings.now in
+    let child : IfOk c.evaluate-in-PadL.result (λ v. meant v ≡ (tensor_in s c.in-PadL.e r bs)) = subst (λ (e : Term). IfOk c.evaluate-in-PadL.result (λ v. meant v ≡ tensor_in s e r bs)) c.get-in-PadL.ensures c.evaluate-in-PadL.ensures.value in
+    let made = of-meant (λ bs t. from_rows (copies (extent c.in-PadL.n s) (zeros (tail_of (extents_in s c.get-in-PadL-2.result.now bs))) ++ rows_of t)) c.evaluate-in-PadL.new.bindings bs c.evaluate-in-PadL.result c.padded_before.result (tensor_in s c.in-PadL.e r bs) c.padded_before.ensures.value c.evaluate-in-PadL.ensures.bindings child in
+    subst (λ (y : Tensor). IfOk c.padded_before.result (λ v. meant v ≡ y)) (ap (λ e. from_rows (copies (extent c.in-PadL.n s) (zeros (tail_of (extents_in s e bs))) ++ rows_of (tensor_in s c.in-PadL.e r bs))) c.get-in-PadL-2.ensures ∙ sym (tensor-PadL s r (scope bs) c.args.term.now c.in-PadL.n c.in-PadL.e c.in-PadL.is)) made
+
+pub evaluate-returns-in-PadL-clause-vars : goal.evaluate-returns-in-PadL-clause-vars
+evaluate-returns-in-PadL-clause-vars t c =
+    let s = c.args.sizes.now in
+    of-kept (λ (d : Value). λ (v : Value). meant v ≡ from_rows (copies (extent c.in-PadL.n s) (zeros (tail_of (extents_in s c.get-in-PadL-2.result.now c.evaluate-in-PadL.new.bindings))) ++ rows_of (meant d))) (c.evaluate-in-PadL.new.vars ≡ c.args.vars.now) c.evaluate-in-PadL.result c.padded_before.result c.padded_before.ensures.value c.evaluate-in-PadL.ensures.vars
+
+pub evaluate-returns-in-PadL-clause-bindings : goal.evaluate-returns-in-PadL-clause-bindings
+evaluate-returns-in-PadL-clause-bindings t c =
+    let s = c.args.sizes.now in
+    both-kept c.padded_before.result c.padded_before.new.bindings c.evaluate-in-PadL.new.bindings c.args.bindings.now c.padded_before.ensures.bindings (of-kept (λ (d : Value). λ (v : Value). meant v ≡ from_rows (copies (extent c.in-PadL.n s) (zeros (tail_of (extents_in s c.get-in-PadL-2.result.now c.evaluate-in-PadL.new.bindings))) ++ rows_of (meant d))) (c.evaluate-in-PadL.new.bindings ≡ c.args.bindings.now) c.evaluate-in-PadL.result c.padded_before.result c.padded_before.ensures.value c.evaluate-in-PadL.ensures.bindings)
+
+pub evaluate-padded_before-requires-clause-fits : goal.evaluate-padded_before-requires-clause-fits
+evaluate-padded_before-requires-clause-fits t c =
+    let s = c.args.sizes.now in
+    IfOk-weaker c.evaluate-in-PadL.result _ _ (λ v kept. (λ i. fits_in s (c.get-in-PadL-2.ensures i) (kept i)) ∙ (fits-PadL s (extents_of (scope c.args.bindings.now)) c.args.term.now c.in-PadL.n c.in-PadL.e c.in-PadL.is c.requires.fits).0) c.evaluate-in-PadL.ensures.bindings
+
+pub evaluate-returns-in-PadR-clause-value : goal.evaluate-returns-in-PadR-clause-value
+evaluate-returns-in-PadR-clause-value t c =
+    let s = c.args.sizes.now in
+    let r = c.args.vars.now in
+    let bs = c.args.bindings.now in
+    let child : IfOk c.evaluate-in-PadR.result (λ v. meant v ≡ (tensor_in s c.in-PadR.e r bs)) = subst (λ (e : Term). IfOk c.evaluate-in-PadR.result (λ v. meant v ≡ tensor_in s e r bs)) c.get-in-PadR.ensures c.evaluate-in-PadR.ensures.value in
+    let made = of-meant (λ bs t. from_rows (rows_of t ++ copies (extent c.in-PadR.n s) (zeros (tail_of (extents_in s c.get-in-PadR-2.result.now bs))))) c.evaluate-in-PadR.new.bindings bs c.evaluate-in-PadR.result c.padded_behind.result (tensor_in s c.in-PadR.e r bs) c.padded_behind.ensures.value c.evaluate-in-PadR.ensures.bindings child in
+    subst (λ (y : Tensor). IfOk c.padded_behind.result (λ v. meant v ≡ y)) (ap (λ e. from_rows (rows_of (tensor_in s c.in-PadR.e r bs) ++ copies (extent c.in-PadR.n s) (zeros (tail_of (extents_in s e bs))))) c.get-in-PadR-2.ensures ∙ sym (tensor-PadR s r (scope bs) c.args.term.now c.in-PadR.n c.in-PadR.e c.in-PadR.is)) made
+
+pub evaluate-returns-in-PadR-clause-vars : goal.evaluate-returns-in-PadR-clause-vars
+evaluate-returns-in-PadR-clause-vars t c =
+    let s = c.args.sizes.now in
+    of-kept (λ (d : Value). λ (v : Value). meant v ≡ from_rows (rows_of (meant d) ++ copies (extent c.in-PadR.n s) (zeros (tail_of (extents_in s c.get-in-PadR-2.result.now c.evaluate-in-PadR.new.bindings))))) (c.evaluate-in-PadR.new.vars ≡ c.args.vars.now) c.evaluate-in-PadR.result c.padded_behind.result c.padded_behind.ensures.value c.evaluate-in-PadR.ensures.vars
+
+pub evaluate-returns-in-PadR-clause-bindings : goal.evaluate-returns-in-PadR-clause-bindings
+evaluate-returns-in-PadR-clause-bindings t c =
+    let s = c.args.sizes.now in
+    both-kept c.padded_behind.result c.padded_behind.new.bindings c.evaluate-in-PadR.new.bindings c.args.bindings.now c.padded_behind.ensures.bindings (of-kept (λ (d : Value). λ (v : Value). meant v ≡ from_rows (rows_of (meant d) ++ copies (extent c.in-PadR.n s) (zeros (tail_of (extents_in s c.get-in-PadR-2.result.now c.evaluate-in-PadR.new.bindings))))) (c.evaluate-in-PadR.new.bindings ≡ c.args.bindings.now) c.evaluate-in-PadR.result c.padded_behind.result c.padded_behind.ensures.value c.evaluate-in-PadR.ensures.bindings)
+
+pub evaluate-padded_behind-requires-clause-fits : goal.evaluate-padded_behind-requires-clause-fits
+evaluate-padded_behind-requires-clause-fits t c =
+    let s = c.args.sizes.now in
+    IfOk-weaker c.evaluate-in-PadR.result _ _ (λ v kept. (λ i. fits_in s (c.get-in-PadR-2.ensures i) (kept i)) ∙ (fits-PadR s (extents_of (scope c.args.bindings.now)) c.args.term.now c.in-PadR.n c.in-PadR.e c.in-PadR.is c.requires.fits).0) c.evaluate-in-PadR.ensures.bindings
