@@ -8,12 +8,11 @@ use Rattle.affine_index.specs.declared.form.Atom.{Atom, out-Atom}
 use Rattle.affine_index.specs.declared.form.Atom.TheVariants.{Size, Var, Div, Mul}
 use Rattle.affine_index.specs.declared.form.Items.{Items}
 use Rattle.fact_list.proofs.Appending.{drop-item, take-item}
-use Rattle.fact_list.specs.declared.role.Fact.{Fact}
 use Rattle.fact_list.specs.declared.role.Role.{Role}
 use Rattle.fact_list.specs.declared.role.Role.TheVariants.{BoundOf, FactorOf, ProductOf}
 use Rattle.fact_list.specs.declared.role.Side.{Side}
 use Rattle.fact_list.specs.declared.role.Side.TheVariants.{Lower, Upper}
-use Rattle.linear_cert.specs.DefaultLines.{atom_or, chosen_factor, chosen_of, divisor_of, factor_role, find_role, layer_chosen, layer_divisor, layer_is_quotient, layer_role, role_for, same_role}
+use Rattle.linear_cert.specs.DefaultLines.{atom_or, chosen_factor, chosen_of, divisor_of, factor_role, layer_chosen, layer_divisor, layer_is_quotient, layer_role, role_for}
 
 module _ {A : Type 0} (test : A → Bool) where
   first-true : (x : A) (xs : List A) → test x ≡ true → find test (x ∷ xs) ≡ Some x
@@ -43,17 +42,6 @@ pub slice-at : {A : Type 0} (xs : List A) (i : ℕ) (x : A) → i < length xs �
 slice-at [] i x h e = absurd (omega arith)
 slice-at (y ∷ xs) zero x h e = ap Some (sym e)
 slice-at (y ∷ xs) (suc i) x h e = slice-at xs i x (omega arith) e
-
--- a fact of the role, or of another
-pub role-found : (r : Role) (xs : List Fact) (i : ℕ) (x : Fact) → i < length xs → x ≡ get_or xs i x → same_role r x.role ≡ true → find_role r i (drop i xs) ≡ Some i
-role-found r xs i x h e t = ap (find_role r i) (drop-item xs i x h e) ∙ ap (λ b. if b then Some i else find_role r (suc i) (drop (i + 1) xs)) t
-
-pub role-skipped : (r : Role) (xs : List Fact) (i : ℕ) (x : Fact) → i < length xs → x ≡ get_or xs i x → same_role r x.role ≡ false → find_role r (i + 1) (drop (i + 1) xs) ≡ find_role r i (drop i xs)
-role-skipped r xs i x h e t =
-    ap (λ n. find_role r n (drop (i + 1) xs)) (turn i) ∙ sym (ap (find_role r i) (drop-item xs i x h e) ∙ ap (λ b. if b then Some i else find_role r (suc i) (drop (i + 1) xs)) t)
-  where
-    turn : (i : ℕ) → i + 1 ≡ suc i
-    turn i = omega arith
 
 -- the factor to bound, by the kind of the atom
 pub factor-Size : (k : ℕ) → chosen_factor (Size k) ≡ Size k

@@ -6,6 +6,7 @@ pub mod LeastLaws
 pub mod LineLaws
 pub mod LinesTrue
 pub mod ProcedureLaws
+pub mod RoleLaws
 pub mod RoomLaws
 pub mod ShownTrue
 pub mod Weights

@@ -1,3 +1,4 @@
 pub mod DefaultLines
+pub mod Roles
 pub mod Room
 pub mod Shown

@@ -7,6 +7,7 @@ ghost use Rattle.std.specs.Int.RustNames.{unsigned_abs};
 ghost use Rattle.affine_index.specs.Sum.{difference_of, scaled};
 ghost use Rattle.affine_index.specs.Wide.{norm};
 ghost use Rattle.fact_list.specs.Normal.{AllNormal};
+ghost use Rattle.linear_cert.specs.Roles.{Mapped};
 ghost use Rattle.linear_cert.specs.Room.{Room, StepOf};
 ghost use Rattle.linear_cert.specs.DefaultLines.{add_at, all_times, fact_form, less_fact, limited_attempt, multiplier_fits, multipliers_fit, needed, replaced};
 
@@ -61,14 +62,16 @@ fn needed(size: u128, divisor: u32) -> u64
 }
 
 /// The next step of an attempt, or None where it fails for want of a fact or for the size of a multiplier.
-fn step_of(facts: &[Fact], attempt: &Attempt) -> Option<Step>
-    requires { Room facts.now 512 attempt.now }
+fn step_of(facts: &[Fact], places: &[usize], attempt: &Attempt) -> Option<Step>
+    requires mapped { Mapped facts.now (length facts.now) places.now }
+    requires room { Room facts.now 512 attempt.now }
     ensures { MatchOption result (replaced facts.now attempt.now ≡ None) (λ step. StepOf facts.now attempt.now step) }
 {
     let at = chosen(&attempt.left)?;
     let item = attempt.left.terms().get(at);
     let factor = chosen_factor(item.atom());
-    let fact = find_fact(facts, side_for(item.coefficient()), item.atom(), factor)?;
+    let side = side_for(item.coefficient());
+    let fact = find_fact(facts, places, side, item.atom(), factor)?;
     let divisor = divisor_of(factor);
     let size = item.coefficient().unsigned_abs();
     let by = needed(size, divisor);
@@ -221,17 +224,19 @@ fn after_step(
     }))
 }
 
-/// An attempt with one atom replaced by a bound of it. Moves the form: linear in its items and in the facts.
+/// An attempt with one atom replaced by a bound of it. Moves the form: linear in its items; linear in the facts where all is taken several times.
 pub fn replaced(
     alloc: Global,
     facts: &[Fact],
+    places: &[usize],
     attempt: Attempt,
 ) -> Result<Option<Attempt>, CertRefusal>
-    requires { Room facts.now 512 attempt }
+    requires mapped { Mapped facts.now (length facts.now) places.now }
+    requires room { Room facts.now 512 attempt }
     ensures is { IfOk result (λ next. next ≡ replaced facts.now attempt) }
     ensures room { (n : ℕ) → AllNormal facts.now → Room facts.now n attempt → IfOk result (λ next. IfSome next (λ a. Room facts.now (suc n) a)) }
 {
-    match step_of(facts, &attempt) {
+    match step_of(facts, places, &attempt) {
         Some(step) => after_step(alloc, facts, attempt, step),
         None => Ok(None),
     }

@@ -5,12 +5,14 @@ ghost use Rattle.std.specs.Prelude.{◌≡◌, ◌<◌, length, slice_get, IfSom
 ghost use Rattle.std.specs.List.{find};
 ghost use Rattle.std.specs.Option.{is_some, option_and_then, option_copied};
 ghost use Rattle.affine_index.specs.declared.form.Atom.{out-Atom};
-ghost use Rattle.linear_cert.specs.DefaultLines.{atom_least, chosen_factor, chosen_item, chosen_of, divisor_of, find_role, layer_is_quotient, role_for, same_role, same_side, same_var, side_for};
+ghost use Rattle.linear_cert.specs.DefaultLines.{atom_least, chosen_factor, chosen_item, chosen_of, divisor_of, find_role, layer_is_quotient, role_for, same_var, side_for};
+ghost use Rattle.linear_cert.specs.Roles.{Mapped, wanted_role};
 
 use crate::least::{atom_least, form_least};
+use crate::roles::{Wanted, find};
 use affine_index::Atom;
 use affine_index::raw::Wide;
-use fact_list::{Fact, Role, Side, same_atoms};
+use fact_list::{Fact, Side};
 
 fn same_var(v: Option<u32>, w: Option<u32>) -> bool
     ensures { result ≡ same_var v w }
@@ -112,66 +114,29 @@ pub fn side_for(coefficient: i128) -> Side
     }
 }
 
-fn same_side(a: Side, b: Side) -> bool
-    ensures { result ≡ same_side a b }
-{
-    match (a, b) {
-        (Side::Lower, Side::Lower) => true,
-        (Side::Upper, Side::Upper) => true,
-        _ => false,
-    }
-}
-
-fn is_product_of(role: &Role, whole: &Atom) -> bool
-    ensures { result ≡ same_role (Role.ProductOf whole.now) role.now }
-{
-    match role {
-        Role::ProductOf(product) => same_atoms(whole, product),
-        _ => false,
-    }
-}
-
-fn is_factor_of(role: &Role, side: Side, factor: &Atom, whole: &Atom) -> bool
-    ensures { result ≡ same_role (Role.FactorOf side factor.now whole.now) role.now }
-{
-    match role {
-        Role::FactorOf(of, bounded, product) => {
-            same_side(side, *of) && same_atoms(factor, bounded) && same_atoms(whole, product)
-        }
-        _ => false,
-    }
-}
-
-fn is_bound_of(role: &Role, side: Side, atom: &Atom) -> bool
-    ensures { result ≡ same_role (Role.BoundOf side atom.now) role.now }
-{
-    match role {
-        Role::BoundOf(of, bounded) => same_side(side, *of) && same_atoms(atom, bounded),
-        _ => false,
-    }
-}
-
-/// Whether a fact is the bound to use for an atom with a factor.
-fn bounds(role: &Role, side: Side, atom: &Atom, factor: &Atom) -> bool
-    ensures { result ≡ same_role (role_for side atom.now factor.now) role.now }
+/// The bound to use for an atom with a factor, as it is looked for.
+fn wanted_for<'a>(side: Side, atom: &'a Atom, factor: &'a Atom) -> Wanted<'a>
+    ensures { wanted_role result ≡ role_for side atom.now factor.now }
 {
     match atom {
         Atom::Mul(_) => match (side, factor) {
-            (Side::Lower, Atom::Var(_)) => is_product_of(role, atom),
-            _ => is_factor_of(role, side, factor, atom),
+            (Side::Lower, Atom::Var(_)) => Wanted::Product(atom),
+            _ => Wanted::Factor(side, factor, atom),
         },
-        _ => is_bound_of(role, side, atom),
+        _ => Wanted::Bound(side, atom),
     }
 }
 
 /// The place of the bound to use for an atom with a factor.
-pub fn find_fact(facts: &[Fact], side: Side, atom: &Atom, factor: &Atom) -> Option<usize>
+pub fn find_fact(
+    facts: &[Fact],
+    places: &[usize],
+    side: Side,
+    atom: &Atom,
+    factor: &Atom,
+) -> Option<usize>
+    requires { Mapped facts.now (length facts.now) places.now }
     ensures { result ≡ find_role (role_for side atom.now factor.now) 0 facts.now }
 {
-    for i in 0..facts.len() {
-        if bounds(&facts[i].role, side, atom, factor) {
-            return Some(i);
-        }
-    }
-    None
+    find(facts, places, wanted_for(side, atom, factor))
 }

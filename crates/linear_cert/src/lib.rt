@@ -8,6 +8,7 @@ mod given;
 mod least;
 pub mod lines;
 mod procedure;
+mod roles;
 
 pub use certificate::{default_lines, shown};
 pub use fact_list::{CertRefusal, Facts, PathFact, SizeBounds};

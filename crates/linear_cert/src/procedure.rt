@@ -5,11 +5,13 @@ ghost use Rattle.std.specs.Prelude.{true, ◌≡◌, ◌+◌, ◌^◌, ◌<◌, 
 ghost use Rattle.std.specs.Int.RustNames.{unsigned_abs};
 ghost use Rattle.affine_index.specs.Sum.{difference_of, scaled};
 ghost use Rattle.fact_list.specs.Normal.{AllNormal};
+ghost use Rattle.linear_cert.specs.Roles.{Mapped};
 ghost use Rattle.linear_cert.specs.Room.{Room};
 ghost use Rattle.linear_cert.specs.DefaultLines.{attempt_lines, attempt_with, attempts_of_cmp, attempts_of_role, carried_on, default_lines_of, finished, first_attempt, first_lines, lines_from, no_times};
 
 use crate::attempt::{Attempt, replaced};
 use crate::lines::Line;
+use crate::roles::mapped;
 use affine_index::raw::{Wide, copied, scaled, sum};
 use affine_index::{Aff, Cmp};
 use fact_list::told::told;
@@ -63,9 +65,11 @@ fn finished(
 fn carried_on(
     alloc: Global,
     facts: &[Fact],
+    places: &[usize],
     attempt: Attempt,
 ) -> Result<Option<Items<Line>>, CertRefusal>
     requires few { length facts.now ≤ 2000 }
+    requires mapped { Mapped facts.now (length facts.now) places.now }
     requires normal { AllNormal facts.now }
     requires room { Room facts.now 0 attempt }
     ensures { IfOk result (λ lines. lines ≡ carried_on 512 facts.now attempt) }
@@ -75,7 +79,7 @@ fn carried_on(
         if attempt.left.terms().len() == 0 {
             return finished(alloc, facts, &attempt);
         }
-        match replaced(alloc, facts, attempt)? {
+        match replaced(alloc, facts, places, attempt)? {
             Some(next) => attempt = next,
             None => return Ok(None),
         }
@@ -123,12 +127,14 @@ fn less_form(alloc: Global, goal: &Aff, form: &Aff, times: i64) -> Result<Wide, 
 fn tried(
     alloc: Global,
     facts: &[Fact],
+    places: &[usize],
     goal: &Aff,
     at: usize,
     form: &Aff,
     by: i64,
 ) -> Result<Option<Items<Line>>, CertRefusal>
     requires few { length facts.now ≤ 2000 }
+    requires mapped { Mapped facts.now (length facts.now) places.now }
     requires normal { AllNormal facts.now }
     requires within { at < length facts.now }
     requires once { unsigned_abs by ≤ 1 }
@@ -144,27 +150,29 @@ fn tried(
         goal_times: 1,
         times,
     };
-    carried_on(alloc, facts, attempt)
+    carried_on(alloc, facts, places, attempt)
 }
 
 /// The lines of the first attempt with a comparison that ends with some.
 fn tried_cmp(
     alloc: Global,
     facts: &[Fact],
+    places: &[usize],
     goal: &Aff,
     at: usize,
     cmp: &Cmp,
 ) -> Result<Option<Items<Line>>, CertRefusal>
     requires few { length facts.now ≤ 2000 }
+    requires mapped { Mapped facts.now (length facts.now) places.now }
     requires normal { AllNormal facts.now }
     requires within { at < length facts.now }
     ensures { IfOk result (λ lines. lines ≡ first_lines facts.now (attempts_of_cmp facts.now goal.now at cmp.now)) }
 {
     match cmp {
-        Cmp::Ge(form) => tried(alloc, facts, goal, at, form, 1),
-        Cmp::Eq(form) => match tried(alloc, facts, goal, at, form, 1)? {
+        Cmp::Ge(form) => tried(alloc, facts, places, goal, at, form, 1),
+        Cmp::Eq(form) => match tried(alloc, facts, places, goal, at, form, 1)? {
             Some(lines) => Ok(Some(lines)),
-            None => tried(alloc, facts, goal, at, form, -1),
+            None => tried(alloc, facts, places, goal, at, form, -1),
         },
     }
 }
@@ -173,17 +181,19 @@ fn tried_cmp(
 fn tried_fact(
     alloc: Global,
     facts: &[Fact],
+    places: &[usize],
     goal: &Aff,
     at: usize,
     fact: &Fact,
 ) -> Result<Option<Items<Line>>, CertRefusal>
     requires few { length facts.now ≤ 2000 }
+    requires mapped { Mapped facts.now (length facts.now) places.now }
     requires normal { AllNormal facts.now }
     requires within { at < length facts.now }
     ensures { IfOk result (λ lines. lines ≡ first_lines facts.now (attempts_of_role facts.now goal.now at fact.now.role fact.now.cmp)) }
 {
     match &fact.role {
-        Role::Stated => tried_cmp(alloc, facts, goal, at, &fact.cmp),
+        Role::Stated => tried_cmp(alloc, facts, places, goal, at, &fact.cmp),
         Role::BoundOf(_, _) => Ok(None),
         Role::FactorOf(_, _, _) => Ok(None),
         Role::ProductOf(_) => Ok(None),
@@ -200,12 +210,13 @@ pub fn default_lines_of(
     ensures { IfOk result (λ lines. lines ≡ default_lines_of facts.now goal.now) }
 {
     told(facts);
+    let places = mapped(alloc, facts)?;
     let first = first_attempt(alloc, facts, goal)?;
-    if let Some(lines) = carried_on(alloc, facts, first)? {
+    if let Some(lines) = carried_on(alloc, facts, places.as_slice(), first)? {
         return Ok(Some(lines));
     }
     for at in 0..facts.len() {
-        match tried_fact(alloc, facts, goal, at, &facts[at])? {
+        match tried_fact(alloc, facts, places.as_slice(), goal, at, &facts[at])? {
             Some(lines) => return Ok(Some(lines)),
             None => {}
         }
