@@ -1,0 +1,103 @@
+-- The worked module is printable.
+use Rattle.std.proofs.Common.{◌≡◌, inl, ℕ, ◌+◌, ◌<◌, ◌≤◌, [], ◌∷◌, true, ◌||◌, ◌&&◌, ◌==◌, refl, ap, sym, ◌∙◌, subst, lit<, lit≤}
+use Rattle.std.specs.Char.{is_ascii_alphabetic}
+use Rattle.std.proofs.lemmas.Bool.{and_from}
+use Rattle.std.proofs.lemmas.Str.{chars-IsAscii, IsUtf8-from_ascii}
+use Rattle.unicode_ident.proofs.IdentLemmas.{is_xid_start-ascii}
+use Rattle.affine_index.specs.Form.{size_form, var_form}
+use Rattle.affine_index.specs.Limited.{items_scoped}
+use Rattle.affine_index.specs.Normal.{atom_good, coefficients_fit, is_normal, is_ordered, is_short, items_good, layer_good}
+use Rattle.affine_index.specs.declared.form.Atom.TheVariants.{Size}
+use Rattle.affine_index.proofs.CountLaws.{count-Size, count-items}
+use Rattle.affine_index.proofs.EveryLaws.{every-Size}
+use Rattle.affine_index.proofs.GivenLaws.{var-normal}
+use Rattle.affine_index.proofs.OrderedLaws.{atom-ordered}
+use Rattle.affine_index.proofs.ReadyLaws.{out-Size, scoped-Size, scoped-Var, scoped-items}
+use Rattle.text_tokens.specs.declared.kind.Kind.TheVariants as k
+use Rattle.text_tokens.specs.declared.kind.Language.TheVariants.{SourceOne}
+use Rattle.text_tokens.specs.Kinds.{keyword, kind_in}
+use Rattle.text_tokens.specs.Lex.{begins_name}
+use Rattle.text_tokens.specs.Names.{AreOfName, IsName}
+use Rattle.text_tokens.proofs.Lexed.{ascii}
+use Rattle.term_tree.specs.Counts.{node_count, node_depth}
+use Rattle.term_tree.specs.Syntax.{gen, index, mul}
+use Rattle.term_tree.specs.declared.term.Term.{Term, Lit, TVar}
+use Rattle.term_tree.specs.declared.term.Term.TheVariants.{Gen, Mul}
+use Rattle.term_tree.proofs.Forms.{Gen-is, Index-is, Mul-is}
+use Rattle.atl_printer.specs.Printable.{HasNoWordOf, IsGoodForm, IsPrintable}
+use Rattle.atl_printer.specs.PrintableModule.{IsPrintableModule}
+use Rattle.printer_rows.specs.Doubled.{doubled, doubled_term}
+
+begins : (c : ℕ) → c < 128 → is_ascii_alphabetic c ≡ true → begins_name c ≡ true
+unfolding begins_name
+begins c below h = (λ j. is_xid_start-ascii c below j || (c == 95)) ∙ (λ j. h j || (c == 95))
+
+input_name : IsName SourceOne (65 ∷ [])
+unfolding keyword kind_in
+input_name =
+    let plain = ascii (65 ∷ []) refl in
+    record {
+      utf8 = IsUtf8-from_ascii (65 ∷ []) plain;
+      characters = subst AreOfName (sym (chars-IsAscii (65 ∷ []) plain)) (begins 65 (lit< tt) refl, tt);
+      no_keyword = refl;
+    }
+
+output_name : IsName SourceOne (66 ∷ [])
+unfolding keyword kind_in
+output_name =
+    let plain = ascii (66 ∷ []) refl in
+    record {
+      utf8 = IsUtf8-from_ascii (66 ∷ []) plain;
+      characters = subst AreOfName (sym (chars-IsAscii (66 ∷ []) plain)) (begins 66 (lit< tt) refl, tt);
+      no_keyword = refl;
+    }
+
+size_name : IsName SourceOne (78 ∷ [])
+unfolding keyword kind_in
+size_name =
+    let plain = ascii (78 ∷ []) refl in
+    record {
+      utf8 = IsUtf8-from_ascii (78 ∷ []) plain;
+      characters = subst AreOfName (sym (chars-IsAscii (78 ∷ []) plain)) (begins 78 (lit< tt) refl, tt);
+      no_keyword = refl;
+    }
+
+size-normal : is_normal (size_form 0) ≡ true
+size-normal =
+    and_from (is_ordered (size_form 0)) _ (atom-ordered (Size 0) (every-Size atom_good items_good 0 ∙ ap layer_good (out-Size 0)))
+    (and_from (coefficients_fit (size_form 0)) (is_short (size_form 0)) refl (simp (count-items, count-Size)))
+
+extent : IsGoodForm 1 0 (size_form 0)
+extent = (size-normal, scoped-items 1 0 (size_form 0) ∙ (λ j. scoped-Size 1 0 0 j && true))
+
+place : IsGoodForm 1 1 (var_form 0)
+place = (var-normal 0, scoped-items 1 1 (var_form 0) ∙ (λ j. scoped-Var 1 1 0 j && true))
+
+-- the term by the names that definitions match on
+abbrev term : Term
+term = gen (size_form 0) (mul (index (TVar 0) (var_form 0)) (Lit 2))
+
+term-is : term ≡ doubled_term
+term-is =
+    sym (Gen-is (size_form 0) (mul (index (TVar 0) (var_form 0)) (Lit 2)))
+    ∙ (λ j. Gen (size_form 0) ((sym (Mul-is (index (TVar 0) (var_form 0)) (Lit 2)) ∙ (λ i. Mul (sym (Index-is (TVar 0) (var_form 0)) i) (Lit 2))) j))
+
+pub printable : IsPrintableModule doubled
+printable = record {
+  version = inl refl;
+  names = (refl, (refl, (refl, tt)));
+  are_names = (size_name, (input_name, (output_name, tt)));
+  bounds = ((lit≤ tt, lit≤ tt), tt);
+  assumes = tt;
+  example = (lit≤ tt, tt);
+  inputs = ((lit≤ tt, (extent, tt)), tt);
+  outputs = (subst (λ t. IsPrintable 1 t 0 1) term-is (extent, ((lit< tt, place), lit< tt)), tt);
+  words = λ e. (subst HasNoWordOf term-is (tt, tt), tt);
+  has_outputs = tt;
+  shallow = (subst (λ t. node_depth t ≤ 200) term-is (lit≤ tt), tt);
+  few = subst (λ t. node_count t + 0 ≤ 20000) term-is (lit≤ tt);
+  few_sizes = lit≤ tt;
+  few_assumes = lit≤ tt;
+  few_inputs = lit≤ tt;
+  few_outputs = lit≤ tt;
+}

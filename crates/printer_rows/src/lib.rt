@@ -1,0 +1,5 @@
+//! Worked canonical texts, as tests, so that `atl_printer` is not proved with them each time.
+#![tactic(auto)]
+
+#[cfg(test)]
+mod tests;
