@@ -1,16 +1,16 @@
 -- Index expressions are read as their grammar says.
-use Rattle.std.proofs.Common.{◌≡◌, ℕ, zero, suc, Bool, true, false, List, Some, None, Result, Ok, Err, refl}
+use Rattle.std.proofs.Common.{◌≡◌, ℕ, zero, suc, Bool, true, false, List, Some, None, refl}
 use Rattle.text_tokens.specs.declared.kind.Kind.{Kind}
 use Rattle.text_tokens.specs.declared.kind.Kind.TheVariants as k
 use Rattle.text_tokens.specs.Words.{Word, Input}
-use Rattle.reader_laws.specs.declared.fault.Fault.{Fault}
 use Rattle.reader_laws.specs.Steps.{Parser, ◌>>=◌, pure, kind, a_word, itself, no_value}
-use Rattle.reader_laws.specs.Grammar.{IsOfJoining, IsNothing}
+use Rattle.reader_laws.specs.Grammar.{IsNothing}
 use Rattle.reader_laws.proofs.Outcomes.{ahead}
 use Rattle.reader_laws.proofs.Lawful.{Lawful, Frees, never, lawful_both, lawful_pure, lawful_choice, lawful_unexpected}
 use Rattle.reader_laws.proofs.LevelLaws.{lawful_opening}
 use Rattle.reader_laws.proofs.Chains.{lawful_chain, rest_frees}
 use Rattle.reader_laws.proofs.Starts.{both_starts, word_then}
+use Rattle.schedule_script.proofs.Depths.{limited_faults}
 use Rattle.schedule_script.proofs.Following.{before_word, frees_nothing}
 use Rattle.schedule_script.specs.declared.tree.IxTree.{IxTree, Num, Name}
 use Rattle.schedule_script.specs.Syntax as tree
@@ -61,10 +61,6 @@ sum_frees : (kd o : Kind) → sum_sign kd ≡ Some o → product_goes_on kd ≡ 
 sum_frees k.Plus o h = refl
 sum_frees k.Minus o h = refl
 sum_frees _ o h = absurd cc
-
--- joining has no fault
-unjoined : (x : IxTree) (fault : Fault) → (let r : Result IxTree Fault = Ok x in r) ≡ Err fault → IsOfJoining fault
-unjoined x fault h = absurd cc
 
 lawful_number_part : Lawful number_part IsNumberPart never
 unfolding number_part
@@ -123,7 +119,7 @@ module _ (inside : Level → Parser IxTree) (below : Level → List Word → IxT
   lawful_factors : (a : IxTree) → Lawful (more_factors inside levels most_items a) (AreFactors below levels most_items a) product_goes_on
   unfolding products
   lawful_factors a = lawful_chain products (λ m b o. factor_after inside levels o b)
-      (λ m b o. IsFactorAfter below levels o b) never product_goes_on product_no_end (λ kd o e. refl) product_stops (λ o b x fault e. unjoined x fault e)
+      (λ m b o. IsFactorAfter below levels o b) never product_goes_on product_no_end (λ kd o e. refl) product_stops (λ o b x fault e. limited_faults x fault e)
       (λ m b o. lawful_factor_after o b) most_items a
 
   lawful_product : Lawful (product inside levels) (IsProduct below levels) product_goes_on
@@ -145,13 +141,13 @@ module _ (inside : Level → Parser IxTree) (below : Level → List Word → IxT
   lawful_summands : (a : IxTree) → Lawful (more_summands inside levels most_items a) (AreSummands below levels most_items a) sum_goes_on
   unfolding sums
   lawful_summands a = lawful_chain sums (λ m b o. summand_after inside levels o b)
-      (λ m b o. IsSummandAfter below levels o b) product_goes_on sum_goes_on sum_no_end sum_frees sum_stops (λ o b x fault e. unjoined x fault e)
+      (λ m b o. IsSummandAfter below levels o b) product_goes_on sum_goes_on sum_no_end sum_frees sum_stops (λ o b x fault e. limited_faults x fault e)
       (λ m b o. lawful_summand_after o b) most_items a
 
   summands_free : Frees (AreSummands below levels most_items) product_goes_on sum_goes_on
   unfolding sums
   summands_free a ws y j is e = rest_frees sums (λ m b o. summand_after inside levels o b)
-      (λ m b o. IsSummandAfter below levels o b) product_goes_on sum_goes_on sum_no_end sum_frees sum_stops (λ o b x fault e. unjoined x fault e)
+      (λ m b o. IsSummandAfter below levels o b) product_goes_on sum_goes_on sum_no_end sum_frees sum_stops (λ o b x fault e. limited_faults x fault e)
       (λ m b o. lawful_summand_after o b) most_items a ws y j is e
 
   pub lawful_sum : Lawful (sum inside levels) (IsSum below levels) sum_goes_on

@@ -1,4 +1,5 @@
 pub mod Forms
+mod Depths
 mod Loops
 mod Relations
 mod Parts

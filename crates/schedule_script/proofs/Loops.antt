@@ -1,12 +1,15 @@
 -- Chains of an index, beside the loops that read them.
 use Rattle.std.proofs.Common.{◌≡◌, ℕ, zero, suc, ◌+◌, ◌-◌, ◌<◌, ◌≤◌, Bool, true, false, cond, Option, Some, None, Ok, Err, refl, ap, ◌∙◌, arith}
 use Rattle.text_tokens.specs.declared.kind.Kind.{Kind}
-use Rattle.text_tokens.specs.Words.{Input, next}
+use Rattle.text_tokens.specs.Words.{Input, peek, next}
 use Rattle.reader_laws.specs.declared.fault.Fault.TheVariants.{TooDeep}
+use Rattle.reader_laws.specs.declared.fault.Fault.{Fault}
 use Rattle.reader_laws.specs.declared.fault.ReadError.{ReadError}
+use Rattle.reader_laws.specs.declared.fault.ReadError.TheVariants.{Refused}
 use Rattle.reader_laws.specs.Steps.{Parser, refusal, kind}
-use Rattle.reader_laws.proofs.Loops.{chain_stop, chain_went, chain_fell, chain_full}
+use Rattle.reader_laws.proofs.Loops.{chain_stop, chain_went, chain_fell, chain_clashed, chain_full}
 use Rattle.schedule_script.specs.declared.tree.IxTree.{IxTree}
+use Rattle.schedule_script.specs.Depth.{limited}
 use Rattle.schedule_script.specs.Words.{most_items, most_steps}
 use Rattle.schedule_script.specs.Index.{Level, Sum, Part, sum_sign, product_sign, sums, products, part, factor_after, more_factors, summand_after}
 use Rattle.schedule_script.specs.Index.{more_summands, sum, inner}
@@ -19,7 +22,7 @@ pub few_steps : most_steps ≡ 1000
 unfolding most_steps
 few_steps = refl
 
--- a kind that is a sign, args a test of it tells
+-- a kind that is a sign, as a test of it tells
 abbrev signs : Kind → Bool → Option Kind
 signs kd b = cond b (Some kd) None
 
@@ -36,12 +39,20 @@ module _ (inside : Level → Parser IxTree) (levels : ℕ) where
   products_stop n left i b h e = chain_stop products (λ m a o. factor_after inside levels o a) n left i (untold (kind i) (product_sign (kind i)) b h e)
 
   pub products_went : (n at : ℕ) (left value : IxTree) (i j : Input) (b : Bool) → at < n → product_sign (kind i) ≡ signs (kind i) b → b ≡ true
-      → factor_after inside levels (kind i) left (next i) ≡ Ok (value, j)
+      → factor_after inside levels (kind i) left (next i) ≡ Ok (value, j) → limited value ≡ Ok value
       → more_factors inside levels (n - at) left i ≡ more_factors inside levels (n - (at + 1)) value j
   unfolding products
-  products_went n at left value i j b below h e reads =
+  products_went n at left value i j b below h e reads joins =
       chain_went products (λ m a o. factor_after inside levels o a) n at left value value (kind i) i j below (omega arith)
-      (told (kind i) (product_sign (kind i)) b h e) reads refl
+      (told (kind i) (product_sign (kind i)) b h e) reads joins
+
+  pub products_clashed : (n at : ℕ) (left value : IxTree) (i j : Input) (fault : Fault) (b : Bool) → at < n → product_sign (kind i) ≡ signs (kind i) b
+      → b ≡ true → factor_after inside levels (kind i) left (next i) ≡ Ok (value, j) → limited value ≡ Err fault
+      → more_factors inside levels (n - at) left i ≡ Err (Refused fault (peek i).place)
+  unfolding products
+  products_clashed n at left value i j fault b below h e reads joins =
+      chain_clashed products (λ m a o. factor_after inside levels o a) n at left value (kind i) i j fault below (omega arith)
+      (told (kind i) (product_sign (kind i)) b h e) reads joins
 
   pub products_fell : (n at : ℕ) (left : IxTree) (i : Input) (x : ReadError) (b : Bool) → at < n → product_sign (kind i) ≡ signs (kind i) b → b ≡ true
       → factor_after inside levels (kind i) left (next i) ≡ Err x
@@ -63,12 +74,20 @@ module _ (inside : Level → Parser IxTree) (levels : ℕ) where
   sums_stop n left i b h e = chain_stop sums (λ m a o. summand_after inside levels o a) n left i (untold (kind i) (sum_sign (kind i)) b h e)
 
   pub sums_went : (n at : ℕ) (left value : IxTree) (i j : Input) (b : Bool) → at < n → sum_sign (kind i) ≡ signs (kind i) b → b ≡ true
-      → summand_after inside levels (kind i) left (next i) ≡ Ok (value, j)
+      → summand_after inside levels (kind i) left (next i) ≡ Ok (value, j) → limited value ≡ Ok value
       → more_summands inside levels (n - at) left i ≡ more_summands inside levels (n - (at + 1)) value j
   unfolding sums
-  sums_went n at left value i j b below h e reads =
+  sums_went n at left value i j b below h e reads joins =
       chain_went sums (λ m a o. summand_after inside levels o a) n at left value value (kind i) i j below (omega arith)
-      (told (kind i) (sum_sign (kind i)) b h e) reads refl
+      (told (kind i) (sum_sign (kind i)) b h e) reads joins
+
+  pub sums_clashed : (n at : ℕ) (left value : IxTree) (i j : Input) (fault : Fault) (b : Bool) → at < n → sum_sign (kind i) ≡ signs (kind i) b
+      → b ≡ true → summand_after inside levels (kind i) left (next i) ≡ Ok (value, j) → limited value ≡ Err fault
+      → more_summands inside levels (n - at) left i ≡ Err (Refused fault (peek i).place)
+  unfolding sums
+  sums_clashed n at left value i j fault b below h e reads joins =
+      chain_clashed sums (λ m a o. summand_after inside levels o a) n at left value (kind i) i j fault below (omega arith)
+      (told (kind i) (sum_sign (kind i)) b h e) reads joins
 
   pub sums_fell : (n at : ℕ) (left : IxTree) (i : Input) (x : ReadError) (b : Bool) → at < n → sum_sign (kind i) ≡ signs (kind i) b → b ≡ true
       → summand_after inside levels (kind i) left (next i) ≡ Err x

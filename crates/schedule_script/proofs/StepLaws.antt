@@ -1,4 +1,4 @@
--- Steps and final lines are read args their grammar says.
+-- Steps and final lines are read as their grammar says.
 use Rattle.std.proofs.Common.{◌≡◌, ℕ, ℤ, pos, neg_ℤ, Bool, false, List, [], ◌∷◌, refl, sym, ap, ◌∙◌}
 use Rattle.text_tokens.specs.declared.kind.Kind.{Kind}
 use Rattle.text_tokens.specs.declared.kind.Kind.TheVariants as k

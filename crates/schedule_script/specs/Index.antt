@@ -1,5 +1,5 @@
 -- Index expressions of a script: how they are read, and their grammar. Which words stand for which tree.
-use Rattle.std.specs.Prelude.{ℕ, zero, suc, List, Option, Some, None, Ok}
+use Rattle.std.specs.Prelude.{ℕ, zero, suc, List, Option, Some, None}
 use Rattle.text_tokens.specs.declared.kind.Kind.{Kind}
 use Rattle.text_tokens.specs.declared.kind.Kind.TheVariants as k
 use Rattle.text_tokens.specs.Words.{Word}
@@ -9,6 +9,7 @@ use Rattle.reader_laws.specs.Chain.{Links, chain}
 use Rattle.reader_laws.specs.Grammar.{IsWordOf, IsNothing, Opened, OneOf, Both, IsChain}
 use Rattle.schedule_script.specs.declared.tree.IxTree.{IxTree, Num, Name}
 use Rattle.schedule_script.specs.Syntax as tree
+use Rattle.schedule_script.specs.Depth.{limited}
 use Rattle.schedule_script.specs.Words.{word_value, divisor_value, most_items}
 
 -- how tight what stands inside a part is: a sum in parentheses, or one part behind a minus
@@ -29,12 +30,12 @@ product_sign k.Slash = Some k.Slash
 product_sign k.Percent = Some k.Percent
 product_sign _ = None
 
--- Operators of an index open no level. What follows one is read together with what it makes of what stands before it.
+-- Operators of an index open no level. What follows one is read together with what it makes of what stands before it, which must not be too deep.
 unfoldable pub sums : Links IxTree IxTree Kind
-sums = record { operator = sum_sign; room = λ n. 1; join = λ o a b. Ok b }
+sums = record { operator = sum_sign; room = λ n. 1; join = λ o a b. limited b }
 
 unfoldable pub products : Links IxTree IxTree Kind
-products = record { operator = product_sign; room = λ n. 1; join = λ o a b. Ok b }
+products = record { operator = product_sign; room = λ n. 1; join = λ o a b. limited b }
 
 -- ---- numbers and names
 

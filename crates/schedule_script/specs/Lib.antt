@@ -1,5 +1,6 @@
 pub mod Syntax
 pub mod Words
+pub mod Depth
 pub mod Index
 pub mod Arguments
 pub mod Steps

@@ -5,7 +5,7 @@ ghost use Rattle.reader_laws.specs.declared.fault.ReadError.TheVariants.{Memory}
 ghost use Rattle.reader_laws.specs.Steps.{Reads};
 ghost use Rattle.schedule_script.specs.Arguments as spec;
 
-use crate::index;
+use crate::index::index;
 use crate::tree::{ArgTree, Comparison, IxTree};
 use crate::words::MOST_ITEMS;
 use affine_index::Rel;
@@ -49,7 +49,7 @@ fn against(
     ensures { Reads (λ x. x) (spec.against levels left tokens.old) result tokens.new }
 {
     let rel = relation_word(tokens)?;
-    let right = index::sum(alloc, tokens, levels)?;
+    let right = index(alloc, tokens, levels)?;
     Ok(Comparison { left, rel, right })
 }
 
@@ -61,7 +61,7 @@ fn comparison(
 ) -> Result<Comparison, ReadError>
     ensures { Reads (λ x. x) (spec.comparison levels tokens.old) result tokens.new }
 {
-    let left = index::sum(alloc, tokens, levels)?;
+    let left = index(alloc, tokens, levels)?;
     against(alloc, tokens, levels, left)
 }
 
@@ -109,7 +109,7 @@ fn condition_after(
 ) -> Result<ArgTree, ReadError>
     ensures { Reads (λ x. x) (spec.condition_after levels left rel tokens.old) result tokens.new }
 {
-    let right = index::sum(alloc, tokens, levels)?;
+    let right = index(alloc, tokens, levels)?;
     let first = one(alloc, Comparison { left, rel, right })?;
     let all = comparisons(alloc, tokens, levels, first)?;
     Ok(ArgTree::Cond(all))
@@ -124,7 +124,7 @@ pub(crate) fn argument(
 ) -> Result<ArgTree, ReadError>
     ensures { Reads (λ x. x) (spec.argument levels tokens.old) result tokens.new }
 {
-    let left = index::sum(alloc, tokens, levels)?;
+    let left = index(alloc, tokens, levels)?;
     let Some(rel) = relation(tokens.peek()) else {
         return Ok(ArgTree::Ix(left));
     };

@@ -6,7 +6,7 @@ ghost use Rattle.reader_laws.specs.Steps.{Reads};
 ghost use Rattle.schedule_script.specs.Index as spec;
 ghost use Rattle.schedule_script.specs.Words.{most_items};
 
-use crate::made;
+use crate::made::{self, Tall};
 use crate::tree::IxTree;
 use crate::words::{MOST_ITEMS, divisor, name, name_of, number_in};
 use reader_laws::{Fault, ReadError, expect, misplaced, open, refuse};
@@ -27,7 +27,7 @@ fn is_product_sign(kind: Kind) -> bool
 }
 
 #[tactic(auto, unfolding(crate::specs::Index::number_part))]
-fn number_part(alloc: Global, tokens: &mut Tokens<'_>) -> Result<Boxed<IxTree>, ReadError>
+fn number_part(alloc: Global, tokens: &mut Tokens<'_>) -> Result<Tall, ReadError>
     ensures { Reads (λ x. x) (spec.number_part tokens.old) result tokens.new }
 {
     let n = number_in(tokens, 0, 18_446_744_073_709_551_615)?;
@@ -35,7 +35,7 @@ fn number_part(alloc: Global, tokens: &mut Tokens<'_>) -> Result<Boxed<IxTree>, 
 }
 
 #[tactic(auto, unfolding(crate::specs::Index::name_part))]
-fn name_part(alloc: Global, tokens: &mut Tokens<'_>) -> Result<Boxed<IxTree>, ReadError>
+fn name_part(alloc: Global, tokens: &mut Tokens<'_>) -> Result<Tall, ReadError>
     ensures { Reads (λ x. x) (spec.name_part tokens.old) result tokens.new }
 {
     let text = name(tokens)?;
@@ -45,11 +45,7 @@ fn name_part(alloc: Global, tokens: &mut Tokens<'_>) -> Result<Boxed<IxTree>, Re
 
 #[cycle(descent)]
 #[tactic(auto, unfolding(crate::specs::Index::parenthesized), using(crate::proofs::Loops::inner_sum))]
-fn parenthesized(
-    alloc: Global,
-    tokens: &mut Tokens<'_>,
-    levels: usize,
-) -> Result<Boxed<IxTree>, ReadError>
+fn parenthesized(alloc: Global, tokens: &mut Tokens<'_>, levels: usize) -> Result<Tall, ReadError>
     ensures { Reads (λ x. x) (spec.parenthesized (spec.inner levels) levels tokens.old) result tokens.new }
 {
     open(tokens, levels, Kind::LParen)?;
@@ -62,11 +58,7 @@ fn parenthesized(
 
 #[cycle(descent)]
 #[tactic(auto, unfolding(crate::specs::Index::negated), using(crate::proofs::Loops::inner_part))]
-fn negated(
-    alloc: Global,
-    tokens: &mut Tokens<'_>,
-    levels: usize,
-) -> Result<Boxed<IxTree>, ReadError>
+fn negated(alloc: Global, tokens: &mut Tokens<'_>, levels: usize) -> Result<Tall, ReadError>
     ensures { Reads (λ x. x) (spec.negated (spec.inner levels) levels tokens.old) result tokens.new }
 {
     open(tokens, levels, Kind::Minus)?;
@@ -76,7 +68,7 @@ fn negated(
 
 #[cycle(descent)]
 #[tactic(auto, unfolding(crate::specs::Index::part))]
-fn part(alloc: Global, tokens: &mut Tokens<'_>, levels: usize) -> Result<Boxed<IxTree>, ReadError>
+fn part(alloc: Global, tokens: &mut Tokens<'_>, levels: usize) -> Result<Tall, ReadError>
     ensures { Reads (λ x. x) (spec.part (spec.inner levels) levels tokens.old) result tokens.new }
 {
     match tokens.peek() {
@@ -94,8 +86,8 @@ fn times_part(
     alloc: Global,
     tokens: &mut Tokens<'_>,
     levels: usize,
-    left: Boxed<IxTree>,
-) -> Result<Boxed<IxTree>, ReadError>
+    left: Tall,
+) -> Result<Tall, ReadError>
     ensures { Reads (λ x. x) (spec.factor_after (spec.inner levels) levels k.Star left tokens.old) result tokens.new }
 {
     let right = part(alloc, tokens, levels)?;
@@ -109,8 +101,8 @@ fn factor_after(
     tokens: &mut Tokens<'_>,
     levels: usize,
     sign: Kind,
-    left: Boxed<IxTree>,
-) -> Result<Boxed<IxTree>, ReadError>
+    left: Tall,
+) -> Result<Tall, ReadError>
     ensures { Reads (λ x. x) (spec.factor_after (spec.inner levels) levels sign left tokens.old) result tokens.new }
 {
     match sign {
@@ -129,13 +121,13 @@ fn factor_after(
 
 /// What follows `left` in a product.
 #[cycle(descent)]
-#[tactic(auto, using(crate::proofs::Loops::products_stop, crate::proofs::Loops::products_went, crate::proofs::Loops::products_fell, crate::proofs::Loops::products_full, crate::proofs::Loops::items))]
+#[tactic(auto, using(crate::proofs::Loops::products_stop, crate::proofs::Loops::products_went, crate::proofs::Loops::products_fell, crate::proofs::Loops::products_clashed, crate::proofs::Loops::products_full, crate::proofs::Loops::items))]
 fn more_factors(
     alloc: Global,
     tokens: &mut Tokens<'_>,
     levels: usize,
-    mut left: Boxed<IxTree>,
-) -> Result<Boxed<IxTree>, ReadError>
+    mut left: Tall,
+) -> Result<Tall, ReadError>
     ensures { Reads (λ x. x) (spec.more_factors (spec.inner levels) levels most_items left tokens.old) result tokens.new }
 {
     for _turn in 0..MOST_ITEMS {
@@ -143,8 +135,10 @@ fn more_factors(
         if !is_product_sign(sign) {
             return Ok(left);
         }
+        let place = tokens.place();
         tokens.take();
-        left = factor_after(alloc, tokens, levels, sign, left)?;
+        let joined = factor_after(alloc, tokens, levels, sign, left)?;
+        left = joined.limited(place)?;
     }
     if is_product_sign(tokens.peek()) {
         return Err(refuse(Fault::TooDeep, tokens));
@@ -154,11 +148,7 @@ fn more_factors(
 
 #[cycle(descent)]
 #[tactic(auto, unfolding(crate::specs::Index::product))]
-fn product(
-    alloc: Global,
-    tokens: &mut Tokens<'_>,
-    levels: usize,
-) -> Result<Boxed<IxTree>, ReadError>
+fn product(alloc: Global, tokens: &mut Tokens<'_>, levels: usize) -> Result<Tall, ReadError>
     ensures { Reads (λ x. x) (spec.product (spec.inner levels) levels tokens.old) result tokens.new }
 {
     let first = part(alloc, tokens, levels)?;
@@ -172,8 +162,8 @@ fn summand_after(
     tokens: &mut Tokens<'_>,
     levels: usize,
     sign: Kind,
-    left: Boxed<IxTree>,
-) -> Result<Boxed<IxTree>, ReadError>
+    left: Tall,
+) -> Result<Tall, ReadError>
     ensures { Reads (λ x. x) (spec.summand_after (spec.inner levels) levels sign left tokens.old) result tokens.new }
 {
     match sign {
@@ -191,13 +181,13 @@ fn summand_after(
 
 /// What follows `left` in a sum.
 #[cycle(descent)]
-#[tactic(auto, using(crate::proofs::Loops::sums_stop, crate::proofs::Loops::sums_went, crate::proofs::Loops::sums_fell, crate::proofs::Loops::sums_full, crate::proofs::Loops::items))]
+#[tactic(auto, using(crate::proofs::Loops::sums_stop, crate::proofs::Loops::sums_went, crate::proofs::Loops::sums_fell, crate::proofs::Loops::sums_clashed, crate::proofs::Loops::sums_full, crate::proofs::Loops::items))]
 fn more_summands(
     alloc: Global,
     tokens: &mut Tokens<'_>,
     levels: usize,
-    mut left: Boxed<IxTree>,
-) -> Result<Boxed<IxTree>, ReadError>
+    mut left: Tall,
+) -> Result<Tall, ReadError>
     ensures { Reads (λ x. x) (spec.more_summands (spec.inner levels) levels most_items left tokens.old) result tokens.new }
 {
     for _turn in 0..MOST_ITEMS {
@@ -205,8 +195,10 @@ fn more_summands(
         if !is_sum_sign(sign) {
             return Ok(left);
         }
+        let place = tokens.place();
         tokens.take();
-        left = summand_after(alloc, tokens, levels, sign, left)?;
+        let joined = summand_after(alloc, tokens, levels, sign, left)?;
+        left = joined.limited(place)?;
     }
     if is_sum_sign(tokens.peek()) {
         return Err(refuse(Fault::TooDeep, tokens));
@@ -214,16 +206,25 @@ fn more_summands(
     Ok(left)
 }
 
-/// An index expression, where so many levels may still be opened.
 #[cycle(descent)]
 #[tactic(auto, unfolding(crate::specs::Index::sum))]
-pub(crate) fn sum(
+fn sum(alloc: Global, tokens: &mut Tokens<'_>, levels: usize) -> Result<Tall, ReadError>
+    ensures { Reads (λ x. x) (spec.index levels tokens.old) result tokens.new }
+{
+    let first = product(alloc, tokens, levels)?;
+    more_summands(alloc, tokens, levels, first)
+}
+
+/// An index expression, where so many levels may still be opened.
+pub(crate) fn index(
     alloc: Global,
     tokens: &mut Tokens<'_>,
     levels: usize,
 ) -> Result<Boxed<IxTree>, ReadError>
     ensures { Reads (λ x. x) (spec.index levels tokens.old) result tokens.new }
 {
-    let first = product(alloc, tokens, levels)?;
-    more_summands(alloc, tokens, levels, first)
+    match sum(alloc, tokens, levels) {
+        Ok(tall) => Ok(tall.into_tree()),
+        Err(e) => Err(e),
+    }
 }

@@ -5,7 +5,8 @@ use linear_cert::{FinalLine, Lines};
 use sqlite_items::{Boxed, Items};
 use term_tree::{Name, Path};
 
-/// An index expression as it is written.
+/// An index expression as it is written. What an operator makes is read only up to a depth of 1,000, so with its
+/// minuses a tree is at most 2,000 deep.
 #[derive(Drop)]
 pub enum IxTree {
     Num(u64),
