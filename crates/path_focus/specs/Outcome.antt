@@ -72,6 +72,12 @@ answer Unlike ls = Err PatternMismatch
 answer Unfit ls = Err BadArgument
 answer (Makes raw cs) ls = if nat_lt (length cs) (length ls) then Err ExtraLines else unless (first_unshown ls 0 cs) (limited raw)
 
+-- the conditions alone
+abbrev pub conditions_of : Meant → Result (List Condition) RuleFault
+conditions_of Unlike = Err PatternMismatch
+conditions_of Unfit = Err BadArgument
+conditions_of (Makes raw cs) = Ok cs
+
 -- the answer, unless memory runs out
 abbrev pub Answers : Result Term RuleFault → Result Term RuleFault → Type 0
 Answers want (Err Memory) = Unit {0}

@@ -16,4 +16,4 @@ pub use place::{BoundLet, Focus, PathRefusal};
 pub use plugging::plug;
 pub use reaching::focus;
 pub use rule::{Arg, Condition, Law, RuleFault};
-pub use verdict::finish;
+pub use verdict::{conditions, finish};

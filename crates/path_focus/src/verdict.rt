@@ -3,13 +3,13 @@
 ghost use Rattle.std.specs.Prelude.{◌≡◌, ◌≤◌, None, true, length, IfOk, IsTrue};
 ghost use Rattle.fact_list.specs.Facts.{moves_fit};
 ghost use Rattle.path_focus.specs.Focus.{IsTrueGoal};
-ghost use Rattle.path_focus.specs.Outcome.{AllListed, AllTrueGoals, KeepsIfMeant, Answers, IsDraft, IsOutcome, Meant, condition_shown, first_unshown, shown_by, limited, answer, MadeListed};
+ghost use Rattle.path_focus.specs.Outcome.{AllListed, AllTrueGoals, KeepsIfMeant, Answers, IsDraft, IsOutcome, Meant, condition_shown, first_unshown, shown_by, limited, answer, MadeListed, conditions_of};
 
 use crate::outcome::{Draft, Outcome};
 use crate::rule::{Condition, RuleFault};
 use fact_list::CertRefusal;
 use linear_cert::{Lines, shown};
-use sqlite_items::Boxed;
+use sqlite_items::{Boxed, Items};
 use std::alloc::Global;
 use term_tree::{Term, nodes};
 
@@ -105,5 +105,16 @@ pub fn finish(alloc: Global, outcome: Outcome, lines: &[Lines]) -> Result<Boxed<
                 Err(_) => Err(RuleFault::Memory),
             }
         }
+    }
+}
+
+/// The conditions of what a rule makes, or that the pattern or the arguments do not fit. No memory is wanted.
+pub fn conditions(outcome: Outcome) -> Result<Items<Condition>, RuleFault>
+    ensures { (m : Meant) → IsOutcome m outcome → result ≡ conditions_of m }
+{
+    match outcome {
+        Outcome::NoPattern => Err(RuleFault::PatternMismatch),
+        Outcome::WrongArgument => Err(RuleFault::BadArgument),
+        Outcome::Made(rewrite) => Ok(rewrite.conditions),
     }
 }
