@@ -1,6 +1,6 @@
 -- What the choice of an atom and of its bound rests on.
 use Rattle.std.proofs.Common.{◌≡◌, ℕ, zero, suc, ◌+◌, ◌<◌, List, [], ◌∷◌, length, drop, take, get_or, ap, sym, ◌∙◌, Bool, true, false, cond, Some, arith}
-use Rattle.std.specs.Prelude.{reverse, slice_get, if◌then◌else◌}
+use Rattle.std.specs.Prelude.{reverse, slice_get}
 use Rattle.std.specs.List.{find}
 use Rattle.std.proofs.lemmas.List.{reverse-append}
 use Rattle.affine_index.proofs.ReadyLaws.{out-Size, out-Var, out-Div, out-Mul}
@@ -8,7 +8,6 @@ use Rattle.affine_index.specs.declared.form.Atom.{Atom, out-Atom}
 use Rattle.affine_index.specs.declared.form.Atom.TheVariants.{Size, Var, Div, Mul}
 use Rattle.affine_index.specs.declared.form.Items.{Items}
 use Rattle.fact_list.proofs.Appending.{drop-item, take-item}
-use Rattle.fact_list.specs.declared.role.Role.{Role}
 use Rattle.fact_list.specs.declared.role.Role.TheVariants.{BoundOf, FactorOf, ProductOf}
 use Rattle.fact_list.specs.declared.role.Side.{Side}
 use Rattle.fact_list.specs.declared.role.Side.TheVariants.{Lower, Upper}

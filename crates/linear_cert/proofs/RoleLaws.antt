@@ -108,7 +108,8 @@ same-order (FactorOf x a m) Stated = refl
 same-order (FactorOf x a m) (BoundOf y b) = refl
 same-order (FactorOf x a m) (FactorOf y b n) =
     (λ k. sides-turned x y k && (and-turn (same_atoms a b) (same_atoms m n) ∙ (λ j. turned m n j && turned a b j)) k)
-    ∙ sym (then-eq (side_order y x) (ordering_then (atom_order n m) (atom_order b a)) ∙ ap (λ z. is_eq (side_order y x) && z) (then-eq (atom_order n m) (atom_order b a)))
+    ∙ sym (then-eq (side_order y x) (ordering_then (atom_order n m) (atom_order b a))
+    ∙ ap (λ z. is_eq (side_order y x) && z) (then-eq (atom_order n m) (atom_order b a)))
 same-order (FactorOf x a m) (ProductOf n) = refl
 same-order (ProductOf m) Stated = refl
 same-order (ProductOf m) (BoundOf y b) = refl
@@ -211,14 +212,16 @@ module _ (facts : List Fact) where
     before-next ps n b s h t u =
         let p = get_or ps n 0 in
         let key = role_atom (role_at facts p) in
-        before-more k (keys facts ps) n key (omega (arith, h, keys-length ps)) (keys-at ps n p key h (item-is ps n p h)) s (sym (t ∙ ap is_lt (order-is (role_at facts p) r)) ∙ u)
+        before-more k (keys facts ps) n key (omega (arith, h, keys-length ps)) (keys-at ps n p key h (item-is ps n p h)) s
+        (sym (t ∙ ap is_lt (order-is (role_at facts p) r)) ∙ u)
 
     pub after-next : (ps : List ℕ) (n : ℕ) (b : Bool) → SortedFactors (keys facts ps) → n < length ps
         → b ≡ is_lt (role_order (role_at facts (get_or ps n 0)) r) → b ≡ false → Each (AtMost k) (drop n (keys facts ps))
     after-next ps n b s h t u =
         let p = get_or ps n 0 in
         let key = role_atom (role_at facts p) in
-        after-more k (keys facts ps) n key (omega (arith, h, keys-length ps)) (keys-at ps n p key h (item-is ps n p h)) s (sym (t ∙ ap is_lt (order-is (role_at facts p) r)) ∙ u)
+        after-more k (keys facts ps) n key (omega (arith, h, keys-length ps)) (keys-at ps n p key h (item-is ps n p h)) s
+        (sym (t ∙ ap is_lt (order-is (role_at facts p) r)) ∙ u)
 
     if-not : (p : ℕ) (ps : List ℕ) → same_role r (role_at facts p) ≡ false → first_place facts r (p ∷ ps) ≡ first_place facts r ps
     if-not p ps e = ap (λ b. if b then Some p else first_place facts r ps) e
@@ -247,9 +250,11 @@ module _ (facts : List Fact) where
         by Equal f m = let t : is_eq (atom_order y k) ≡ true = ap is_eq (order-reverse y k ∙ ap ordering_reverse f) in absurd (cc)
         by Greater f m = absurd (cc)
 
-    none-at : (p : ℕ) (ps : List ℕ) → SortedFactors (keys facts (p ∷ ps)) → AtMost k (role_atom (role_at facts p)) → same_role r (role_at facts p) ≡ false → first_place facts r (p ∷ ps) ≡ None
+    none-at : (p : ℕ) (ps : List ℕ) → SortedFactors (keys facts (p ∷ ps)) → AtMost k (role_atom (role_at facts p)) → same_role r (role_at facts p) ≡ false
+        → first_place facts r (p ∷ ps) ≡ None
     none-at p ps s m e =
-        if-not p ps e ∙ later-none ps (each-less (role_atom (role_at facts p)) (keys facts ps) (strict (role_atom (role_at facts p)) m (sym (same-key r (role_at facts p)) ∙ e)) s.0)
+        let y = role_atom (role_at facts p) in
+        if-not p ps e ∙ later-none ps (each-less y (keys facts ps) (strict y m (sym (same-key r (role_at facts p)) ∙ e)) s.0)
 
     -- a role stands among places where it would, or not at all
     pub found-at : (ps : List ℕ) (n : ℕ) (b : Bool) → Splits k (keys facts ps) n → n < length ps
@@ -278,19 +283,22 @@ module _ (facts : List Fact) where
         end (p ∷ ps) (suc n) e = end ps n (omega (arith, e))
 
 -- a fact more
-find-more : (r : Role) (k : ℕ) (xs : List Fact) (n : ℕ) → n < length xs → find_role r k (take (suc n) xs) ≡ option_or (find_role r k (take n xs)) (if same_role r (role_at xs n) then Some (k + n) else None)
+find-more : (r : Role) (k : ℕ) (xs : List Fact) (n : ℕ) → n < length xs
+    → find_role r k (take (suc n) xs) ≡ option_or (find_role r k (take n xs)) (if same_role r (role_at xs n) then Some (k + n) else None)
 find-more r k [] n h = absurd (omega arith)
 find-more r k (x ∷ xs) zero h = ap (λ m. if same_role r x.role then Some m else None) (turn k)
   where
     turn : (k : ℕ) → k ≡ k + 0
     turn k = omega arith
 find-more r k (x ∷ xs) (suc n) h =
-    by (same_role r x.role) (find-more r (suc k) xs n (omega arith) ∙ ap (λ m. option_or (find_role r (suc k) (take n xs)) (if same_role r (role_at xs n) then Some m else None)) (turn k n))
+    by (same_role r x.role) (find-more r (suc k) xs n (omega arith)
+    ∙ ap (λ m. option_or (find_role r (suc k) (take n xs)) (if same_role r (role_at xs n) then Some m else None)) (turn k n))
   where
     turn : (k n : ℕ) → suc k + n ≡ k + suc n
     turn k n = omega arith
 
-    by : (b : Bool) → find_role r (suc k) (take (suc n) xs) ≡ option_or (find_role r (suc k) (take n xs)) (if same_role r (role_at xs n) then Some (k + suc n) else None)
+    by : (b : Bool)
+        → find_role r (suc k) (take (suc n) xs) ≡ option_or (find_role r (suc k) (take n xs)) (if same_role r (role_at xs n) then Some (k + suc n) else None)
         → (if b then Some k else find_role r (suc k) (take (suc n) xs)) ≡ option_or (if b then Some k else find_role r (suc k) (take n xs)) (if same_role r (role_at xs n) then Some (k + suc n) else None)
     by true h = refl
     by false h = h
@@ -300,22 +308,26 @@ or-none None = refl
 or-none (Some x) = refl
 
 -- a place more
-put-other : (facts : List Fact) (r : Role) (ps : List ℕ) (n i : ℕ) → same_role r (role_at facts i) ≡ false → first_place facts r (take n ps ++ i ∷ drop n ps) ≡ first_place facts r ps
+put-other : (facts : List Fact) (r : Role) (ps : List ℕ) (n i : ℕ) → same_role r (role_at facts i) ≡ false
+    → first_place facts r (take n ps ++ i ∷ drop n ps) ≡ first_place facts r ps
 put-other facts r ps zero i e = if-not facts r i ps e
 put-other facts r [] (suc n) i e = if-not facts r i [] e
 put-other facts r (p ∷ ps) (suc n) i e = ap (λ o. if same_role r (role_at facts p) then Some p else o) (put-other facts r ps n i e)
 
-put-same : (facts : List Fact) (r : Role) (ps : List ℕ) (n i : ℕ) → same_role r (role_at facts i) ≡ true → first_place facts r ps ≡ None → first_place facts r (take n ps ++ i ∷ drop n ps) ≡ Some i
+put-same : (facts : List Fact) (r : Role) (ps : List ℕ) (n i : ℕ) → same_role r (role_at facts i) ≡ true → first_place facts r ps ≡ None
+    → first_place facts r (take n ps ++ i ∷ drop n ps) ≡ Some i
 put-same facts r ps zero i e h = ap (λ b. if b then Some i else first_place facts r ps) e
 put-same facts r [] (suc n) i e h = ap (λ b. if b then Some i else None) e
 put-same facts r (p ∷ ps) (suc n) i e h = by (same_role r (role_at facts p)) refl h (λ g. put-same facts r ps n i e g)
   where
     by : (b : Bool) → same_role r (role_at facts p) ≡ b → (if b then Some p else first_place facts r ps) ≡ None
-        → (first_place facts r ps ≡ None → first_place facts r (take n ps ++ i ∷ drop n ps) ≡ Some i) → first_place facts r (p ∷ (take n ps ++ i ∷ drop n ps)) ≡ Some i
+        → (first_place facts r ps ≡ None → first_place facts r (take n ps ++ i ∷ drop n ps) ≡ Some i)
+        → first_place facts r (p ∷ (take n ps ++ i ∷ drop n ps)) ≡ Some i
     by true f g rest = absurd (cc)
     by false f g rest = if-not facts r p (take n ps ++ i ∷ drop n ps) f ∙ rest g
 
-more-is : (facts : List Fact) (r : Role) (n : ℕ) (b : Bool) (o : Option ℕ) → n < length facts → same_role r (role_at facts n) ≡ b → o ≡ option_or (find_role r 0 (take n facts)) (if b then Some n else None)
+more-is : (facts : List Fact) (r : Role) (n : ℕ) (b : Bool) (o : Option ℕ) → n < length facts → same_role r (role_at facts n) ≡ b
+    → o ≡ option_or (find_role r 0 (take n facts)) (if b then Some n else None)
     → o ≡ find_role r 0 (take (n + 1) facts)
 more-is facts r n b o h e q =
     q ∙ ap (λ c. option_or (find_role r 0 (take n facts)) (if c then Some n else None)) (sym e)
@@ -329,7 +341,8 @@ more-is facts r n b o h e q =
     turn n = omega arith
 
 -- a stated fact is not looked for
-pub mapped-stated : (facts : List Fact) (ps : List ℕ) (i : ℕ) (x : Fact) → i < length facts → x ≡ get_or facts i x → is_bound x.role ≡ false → Mapped facts i ps → Mapped facts (i + 1) ps
+pub mapped-stated : (facts : List Fact) (ps : List ℕ) (i : ℕ) (x : Fact) → i < length facts → x ≡ get_or facts i x → is_bound x.role ≡ false
+    → Mapped facts i ps → Mapped facts (i + 1) ps
 mapped-stated facts ps i x h e f m = record {
   sorted = m.sorted;
   within = m.within;
@@ -352,7 +365,8 @@ mapped-stated facts ps i x h e f m = record {
     other (ProductOf m) g (ProductOf n) f = absurd (cc)
 
 -- a role that stands there already
-pub mapped-known : (facts : List Fact) (ps : List ℕ) (i p : ℕ) (w : Role) → i < length facts → w ≡ role_at facts i → first_place facts w ps ≡ Some p → Mapped facts i ps
+pub mapped-known : (facts : List Fact) (ps : List ℕ) (i p : ℕ) (w : Role) → i < length facts → w ≡ role_at facts i → first_place facts w ps ≡ Some p
+    → Mapped facts i ps
     → Mapped facts (i + 1) ps
 mapped-known facts ps i p w h e s m = record {
   sorted = m.sorted;
@@ -372,7 +386,8 @@ mapped-known facts ps i p w h e s m = record {
         more-is facts r i true (first_place facts r ps) h f (m.same r g ∙ or-some (find_role r 0 (take i facts)) p (Some i) there)
 
 -- a role more
-pub mapped-more : (facts : List Fact) (ps more : List ℕ) (i n : ℕ) (w : Role) → i < length facts → w ≡ role_at facts i → first_place facts w ps ≡ None → Splits (role_atom w) (keys facts ps) n
+pub mapped-more : (facts : List Fact) (ps more : List ℕ) (i n : ℕ) (w : Role) → i < length facts → w ≡ role_at facts i → first_place facts w ps ≡ None
+    → Splits (role_atom w) (keys facts ps) n
     → Mapped facts i ps → more ≡ insert ps n i → Mapped facts (i + 1) more
 mapped-more facts ps more i n w h e none s m q = subst (Mapped facts (i + 1)) (sym q) (record {
   sorted = subst SortedFactors (sym (keys-put facts ps n i))
@@ -385,7 +400,8 @@ mapped-more facts ps more i n w h e none s m q = subst (Mapped facts (i + 1)) (s
     or-first None i e = refl
     or-first (Some x) i e = absurd (cc)
 
-    by : (r : Role) → is_bound r ≡ true → (b : Bool) → same_role r (role_at facts i) ≡ b → first_place facts r (take n ps ++ i ∷ drop n ps) ≡ find_role r 0 (take (i + 1) facts)
+    by : (r : Role) → is_bound r ≡ true → (b : Bool) → same_role r (role_at facts i) ≡ b
+        → first_place facts r (take n ps ++ i ∷ drop n ps) ≡ find_role r 0 (take (i + 1) facts)
     by r g false f = more-is facts r i false _ h f (put-other facts r ps n i f ∙ m.same r g ∙ sym (or-none (find_role r 0 (take i facts))))
     by r g true f =
         let missing : first_place facts r ps ≡ None = ap (λ z. first_place facts z ps) (role-same r (role_at facts i) f ∙ sym e) ∙ none in
@@ -405,5 +421,6 @@ wanted-bound (Factor side a m) = refl
 wanted-bound (Product m) = refl
 
 -- what is found among the places of all facts
-pub mapped-found : (facts : List Fact) (ps : List ℕ) (w : Wanted) → Mapped facts (length facts) ps → first_place facts (wanted_role w) ps ≡ find_role (wanted_role w) 0 facts
+pub mapped-found : (facts : List Fact) (ps : List ℕ) (w : Wanted) → Mapped facts (length facts) ps
+    → first_place facts (wanted_role w) ps ≡ find_role (wanted_role w) 0 facts
 mapped-found facts ps w m = m.same (wanted_role w) (wanted-bound w) ∙ ap (find_role (wanted_role w) 0) (take-all (length facts) facts (omega arith))

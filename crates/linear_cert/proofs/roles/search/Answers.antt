@@ -1,4 +1,4 @@
-use Rattle.std.proofs.Common.{ap, arith, ◌∙◌, ◌<◌, length}
+use Rattle.std.proofs.Common.{ap, arith, ◌∙◌}
 use Rattle.std.specs.Ordering.{is_eq}
 use Rattle.linear_cert.proofs.RoleLaws.{found-at, none-found, none-last}
 use Rattle.linear_cert.specs.Roles.{role_order, wanted_role}
