@@ -299,7 +299,8 @@ find-more r k (x ∷ xs) (suc n) h =
 
     by : (b : Bool)
         → find_role r (suc k) (take (suc n) xs) ≡ option_or (find_role r (suc k) (take n xs)) (if same_role r (role_at xs n) then Some (k + suc n) else None)
-        → (if b then Some k else find_role r (suc k) (take (suc n) xs)) ≡ option_or (if b then Some k else find_role r (suc k) (take n xs)) (if same_role r (role_at xs n) then Some (k + suc n) else None)
+        → (if b then Some k else find_role r (suc k) (take (suc n) xs))
+            ≡ option_or (if b then Some k else find_role r (suc k) (take n xs)) (if same_role r (role_at xs n) then Some (k + suc n) else None)
     by true h = refl
     by false h = h
 
@@ -346,7 +347,8 @@ pub mapped-stated : (facts : List Fact) (ps : List ℕ) (i : ℕ) (x : Fact) →
 mapped-stated facts ps i x h e f m = record {
   sorted = m.sorted;
   within = m.within;
-  same = λ r g. more-is facts r i false (first_place facts r ps) h (other r g (role_at facts i) (sym (ap is_bound (role-is facts i x h e)) ∙ f)) (m.same r g ∙ sym (or-none (find_role r 0 (take i facts))));
+  same = λ r g. more-is facts r i false (first_place facts r ps) h (other r g (role_at facts i) (sym (ap is_bound (role-is facts i x h e)) ∙ f))
+      (m.same r g ∙ sym (or-none (find_role r 0 (take i facts))));
 }
   where
     other : (r : Role) → is_bound r ≡ true → (s : Role) → is_bound s ≡ false → same_role r s ≡ false
@@ -391,7 +393,8 @@ pub mapped-more : (facts : List Fact) (ps more : List ℕ) (i n : ℕ) (w : Role
     → Mapped facts i ps → more ≡ insert ps n i → Mapped facts (i + 1) more
 mapped-more facts ps more i n w h e none s m q = subst (Mapped facts (i + 1)) (sym q) (record {
   sorted = subst SortedFactors (sym (keys-put facts ps n i))
-      (subst (λ (a : Atom). SortedFactors (take n (keys facts ps) ++ a ∷ drop n (keys facts ps))) (ap role_atom e) (sorted-put (role_atom w) (keys facts ps) n m.sorted s.before s.after));
+      (subst (λ (a : Atom). SortedFactors (take n (keys facts ps) ++ a ∷ drop n (keys facts ps))) (ap role_atom e)
+      (sorted-put (role_atom w) (keys facts ps) n m.sorted s.before s.after));
   within = within-put facts (length facts) ps n i m.within h;
   same = λ r g. by r g (same_role r (role_at facts i)) refl;
 })
