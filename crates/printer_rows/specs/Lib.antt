@@ -1,1 +1,1 @@
-pub mod Doubled
+pub mod Modules

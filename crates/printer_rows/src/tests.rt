@@ -1,5 +1,5 @@
 ghost use Rattle.std.specs.Prelude.{◌≡◌, IfOk};
-ghost use Rattle.printer_rows.specs.Doubled.{doubled, doubled_inputs, doubled_outputs, doubled_sizes, doubled_term};
+ghost use Rattle.printer_rows.specs.Modules.{doubled, doubled_inputs, doubled_outputs, doubled_sizes, doubled_term, paired, product_term, word_term};
 
 use affine_index::{Aff, AffRefusal};
 use atl_printer::print_module;
@@ -94,6 +94,58 @@ fn doubled_module(alloc: Global) -> Result<Module, AffRefusal>
     })
 }
 
+/// `(1 + 2) * 3`
+fn product(alloc: Global) -> Result<Boxed<Term>, AffRefusal>
+    ensures { IfOk result (λ term. term ≡ product_term) }
+{
+    let (one, two_words) = two(held(alloc, Term::Lit(1)), held(alloc, Term::Lit(2)))?;
+    let (sum, three) = two(
+        held(alloc, Term::Add(one, two_words)),
+        held(alloc, Term::Lit(3)),
+    )?;
+    held(alloc, Term::Mul(sum, three))
+}
+
+/// `word(5)`
+fn word(alloc: Global) -> Result<Boxed<Term>, AffRefusal>
+    ensures { IfOk result (λ term. term ≡ word_term) }
+{
+    let five = Aff::literal(alloc, 5)?;
+    held(alloc, Term::WordOf(five))
+}
+
+fn output(alloc: Global, name: &str, term: Boxed<Term>) -> Result<OutputDecl, AffRefusal>
+    ensures { IfOk result (λ output. output ≡ record { name = name.now; term = term }) }
+{
+    let name = named(alloc, name)?;
+    let term = term.into_inner();
+    Ok(OutputDecl { name, term })
+}
+
+fn paired_outputs(alloc: Global) -> Result<Items<OutputDecl>, AffRefusal>
+    ensures { IfOk result (λ outputs. outputs ≡ paired.outputs) }
+{
+    let (product, word) = two(product(alloc), word(alloc))?;
+    let mut outputs = Items::new(alloc);
+    outputs.push(output(alloc, "B", product)?)?;
+    outputs.push(output(alloc, "C", word)?)?;
+    Ok(outputs)
+}
+
+fn paired_module(alloc: Global) -> Result<Module, AffRefusal>
+    ensures { IfOk result (λ made. made ≡ paired) }
+{
+    let outputs = paired_outputs(alloc)?;
+    Ok(Module {
+        version: 2,
+        sizes: Items::new(alloc),
+        assumes: Items::new(alloc),
+        example: Items::new(alloc),
+        inputs: Items::new(alloc),
+        outputs,
+    })
+}
+
 #[test]
 fn a_vector_doubled_prints_as_five_lines(rt: HostRuntime) -> Result<(), Fail> {
     let alloc = rt.alloc();
@@ -102,6 +154,20 @@ fn a_vector_doubled_prints_as_five_lines(rt: HostRuntime) -> Result<(), Fail> {
     assert_eq!(rt;
         text.as_slice(),
         b"atl 1;\nsize N in 0..8;\nexample N = 3;\ninput A[N];\noutput B = gen i0 < N. A[i0] * 2;\n".as_slice()
+    );
+    Ok(())
+}
+
+#[test]
+fn a_sum_in_a_product_and_an_index_as_a_word_print_in_version_two(
+    rt: HostRuntime,
+) -> Result<(), Fail> {
+    let alloc = rt.alloc();
+    let source = paired_module(alloc)?;
+    let text = print_module(alloc, &source)?;
+    assert_eq!(rt;
+        text.as_slice(),
+        b"atl 2;\noutput B = (1 + 2) * 3;\noutput C = word(5);\n".as_slice()
     );
     Ok(())
 }
