@@ -14,3 +14,7 @@ pub mod WordedLaws
 pub mod OutsideForms
 pub mod StepForms
 pub mod ClaimForms
+pub mod OppositeLaws
+pub mod OutsideLaws
+pub mod GenForms
+pub mod MarkSteps

@@ -1,5 +1,5 @@
 -- An accepted module stays within bounds.
-use Rattle.std.specs.Prelude.{◌≡◌, ◌≢◌, ℕ, ◌≤◌, List, [], ◌∷◌, Some, None, Bool, true, false, pos, Ok}
+use Rattle.std.specs.Prelude.{◌≡◌, ◌≢◌, ℕ, ◌≤◌, List, [], ◌∷◌, ◌++◌, Some, None, Bool, true, false, pos, Ok}
 use Rattle.affine_index.specs.Normal.{is_normal}
 use Rattle.linear_cert.specs.declared.lines.FinalLine.{FinalLine}
 use Rattle.loop_lang.specs.Reckoning.{Value, reckon}
@@ -58,7 +58,7 @@ IsParallel m p = (n : Items) × (e : Term) × (marked_part m p ≡ Some (gen n e
 -- each path is that of such a gen, which stands at or in none before it in the list, nor has one of these inside
 abbrev pub MarksFit : Module → List Path → List Path → Type 0
 MarksFit m before [] = Unit {0}
-MarksFit m before (p ∷ ps) = IsParallel m p × (any_nested p before ≡ false) × MarksFit m (p ∷ before) ps
+MarksFit m before (p ∷ ps) = IsParallel m p × (any_nested p before ≡ false) × MarksFit m (before ++ p ∷ []) ps
 
 -- what acceptance gives of the marks
 abbrev pub AcceptedMarksFit : Type 0

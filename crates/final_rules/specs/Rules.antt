@@ -1,6 +1,6 @@
 -- Whether a module in final form may be lowered: the first fault, if there is one.
 use Rattle.std.specs.Prelude.{ℕ, ◌+◌, Bool, true, false, ◌&&◌, ◌||◌, ◌==◌, max, nat_le, nat_lt, if◌then◌else◌, List, [], ◌∷◌, ◌++◌, length, map, slice_get, Option, Some, None, pos, Ok, Err}
-use Rattle.std.specs.Option.{option_and_then}
+use Rattle.std.specs.Option.{option_and_then, option_map}
 use Rattle.affine_index.specs.Form.{literal_form}
 use Rattle.affine_index.specs.Magnitude.{magnitude}
 use Rattle.affine_index.specs.Normal.{is_normal}
@@ -16,8 +16,10 @@ use Rattle.term_tree.specs.declared.term.InputDecl.{InputDecl}
 use Rattle.term_tree.specs.declared.term.Module.{Module}
 use Rattle.term_tree.specs.declared.term.OutputDecl.{OutputDecl}
 use Rattle.term_tree.specs.declared.term.Path.{Path}
-use Rattle.term_tree.specs.declared.term.Term.{Term, Lit, TVar, WordOf}
-use Rattle.term_tree.specs.Syntax.{index, gen, sum, guard, let_in, add, sub, mul, concat, flatten, split, transpose, trunc_l, trunc_r, pad_l, pad_r}
+use Rattle.term_tree.specs.declared.term.Term.{Term}
+use Rattle.term_tree.specs.Syntax.{gen}
+use Rattle.term_tree.specs.declared.term.Term.TheOpen.{Term-F}
+use Rattle.term_tree.specs.declared.term.Term.TheFolds.{fold-Term}
 use Rattle.term_tree.specs.Children.{children}
 use Rattle.term_tree.specs.Modules.{input_shapes}
 use Rattle.term_tree.specs.Shape.{Extents}
@@ -105,26 +107,30 @@ goal_fault finals k (g ∷ gs) = if is_met g (lines_of k finals) then goal_fault
 abbrev pub maxima : Module → List ℕ
 maxima m = map (λ d. at_least_one d.high) m.sizes
 
+-- whether a let stands in a term, at one level of it
+abbrev pub let_step : Term-F Bool → Bool
+let_step (Term-F.Lit w) = false
+let_step (Term-F.TVar q) = false
+let_step (Term-F.WordOf x) = false
+let_step (Term-F.Index e x) = e
+let_step (Term-F.Gen n e) = e
+let_step (Term-F.Sum n e) = e
+let_step (Term-F.Guard c e) = e
+let_step (Term-F.Let a b) = true
+let_step (Term-F.Add a b) = a || b
+let_step (Term-F.Sub a b) = a || b
+let_step (Term-F.Mul a b) = a || b
+let_step (Term-F.Concat a b) = a || b
+let_step (Term-F.Flatten e) = e
+let_step (Term-F.Split k e) = e
+let_step (Term-F.Transpose e) = e
+let_step (Term-F.TruncL n e) = e
+let_step (Term-F.TruncR n e) = e
+let_step (Term-F.PadL n e) = e
+let_step (Term-F.PadR n e) = e
+
 abbrev pub has_let : Term → Bool
-has_let (Lit w) = false
-has_let (WordOf x) = false
-has_let (TVar q) = false
-has_let (index e x) = has_let e
-has_let (gen n e) = has_let e
-has_let (sum n e) = has_let e
-has_let (guard c e) = has_let e
-has_let (let_in a b) = true
-has_let (add a b) = has_let a || has_let b
-has_let (sub a b) = has_let a || has_let b
-has_let (mul a b) = has_let a || has_let b
-has_let (concat a b) = has_let a || has_let b
-has_let (flatten e) = has_let e
-has_let (split k e) = has_let e
-has_let (transpose e) = has_let e
-has_let (trunc_l n e) = has_let e
-has_let (trunc_r n e) = has_let e
-has_let (pad_l n e) = has_let e
-has_let (pad_r n e) = has_let e
+has_let = fold-Term Bool let_step
 
 abbrev pub any_let : List OutputDecl → Bool
 any_let [] = false
@@ -180,9 +186,13 @@ large_fault maxima k (x ∷ xs) = if expression_small maxima x then large_fault 
 
 -- the marks
 
+-- the child of this number
+abbrev pub child_at : ℕ → Term → Option Term
+child_at k e = option_map (λ u. u.term) (slice_get (children (record { index = 0; tensor = 0 }) e) k)
+
 abbrev pub part_at : List ℕ → Term → Option Term
 part_at [] e = Some e
-part_at (k ∷ ks) e = option_and_then (λ u. part_at ks u.term) (slice_get (children (record { index = 0; tensor = 0 }) e) k)
+part_at (k ∷ ks) e = option_and_then (part_at ks) (child_at k e)
 
 abbrev pub begins : List ℕ → List ℕ → Bool
 begins [] ks = true
@@ -204,15 +214,21 @@ part_of_output (Some o) ks = part_at ks o.term
 abbrev pub marked_part : Module → Path → Option Term
 marked_part m p = part_of_output (slice_get m.outputs p.output) p.steps
 
--- at a gen; the first tells whether it stands at, inside or around one that is marked before
+-- what each turn of a gen computes
+abbrev pub gen_body : Term → Option Term
+gen_body (gen n e) = Some e
+gen_body _ = None
+
+-- where there is the body of a gen, which may stand at, inside or around one that is marked before
 abbrev pub mark_fault_at : Path → Bool → Option Term → Verdict
-mark_fault_at p within (Some (gen n e)) = if has_let e then Some (LetInParallel p) else (if within then Some (NestedParallel p) else None)
-mark_fault_at p within _ = Some (ParallelNotGen p)
+mark_fault_at p within None = Some (ParallelNotGen p)
+mark_fault_at p within (Some e) = if has_let e then Some (LetInParallel p) else (if within then Some (NestedParallel p) else None)
 
 -- in order, each against those before it
 abbrev pub mark_fault : Module → List Path → List Path → Verdict
 mark_fault m before [] = None
-mark_fault m before (p ∷ ps) = or_else (mark_fault_at p (any_nested p before) (marked_part m p)) (mark_fault m (p ∷ before) ps)
+mark_fault m before (p ∷ ps) =
+    or_else (mark_fault_at p (any_nested p before) (option_and_then gen_body (marked_part m p))) (mark_fault m (before ++ p ∷ []) ps)
 
 -- acceptance, or the first fault
 abbrev pub final_fault : Module → List FinalLine → List Path → Verdict

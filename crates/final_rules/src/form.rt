@@ -1,16 +1,17 @@
 //! The final form: the first node that leaves it.
 
-ghost use Rattle.std.specs.Prelude.{◌≡◌, true, IfOk, Ok};
+ghost use Rattle.std.specs.Prelude.{◌≡◌, true, IfOk, Ok, OnOk};
 ghost use Rattle.shape_rules.specs.Scopes.{all_free, each_free, given};
 ghost use Rattle.region_plan.specs.Shaped.{IsShaped};
 ghost use Rattle.term_tree.specs.Shape.{shape_of};
-ghost use Rattle.final_rules.specs.Form.{first_node, in_child, outside_word};
+ghost use Rattle.final_rules.specs.Form.{first_node, in_child, no_extents, outside, outside_word, unless};
 ghost use Rattle.final_rules.specs.Places.{extents_under};
 ghost use Rattle.final_rules.specs.Worded.{worded};
 
 use affine_index::Aff;
 use region_plan::extents::extents_of;
 use shape_rules::Shapes;
+use shape_rules::extents::{enter, leave};
 use sqlite_items::Items;
 use std::alloc::{AllocError, Global};
 use term_tree::Term;
@@ -139,5 +140,86 @@ pub fn extents_under(alloc: Global, shapes: &Shapes, term: &Term) -> Result<Item
     match extents_of(alloc, shapes, term) {
         Ok(extents) => Ok(extents),
         Err(_) => Err(AllocError),
+    }
+}
+
+/// Of two nodes the first, where the second is one of words.
+fn difference(alloc: Global, extents: &[Aff], words: Option<Items<u32>>) -> Option<Items<u32>>
+    ensures { result ≡ first_node (unless (no_extents extents.now)) words }
+{
+    if extents.is_empty() {
+        words
+    } else {
+        Some(Items::new(alloc))
+    }
+}
+
+/// The first node of the body of a let, or of the second of two parts, where the first part has been walked.
+#[cycle(outside)]
+fn second(
+    alloc: Global,
+    shapes: &mut Shapes,
+    first: Option<Items<u32>>,
+    b: &Term,
+) -> Result<Option<Items<u32>>, AllocError>
+    requires shaped { IsShaped shapes.old b.now }
+    requires free { all_free (given shapes.old) ≡ true }
+    ensures node { IfOk result (λ o. o ≡ first_node (in_child 0 first) (in_child 1 (outside b.now (given shapes.old)))) }
+    ensures shapes { OnOk result (shapes.new ≡ shapes.old) }
+{
+    let second = outside(alloc, shapes, b)?;
+    match in_child(alloc, 0, first)? {
+        Some(steps) => Ok(Some(steps)),
+        None => in_child(alloc, 1, second),
+    }
+}
+
+/// The first node in preorder of a store position that is outside the final form.
+#[cycle(outside)]
+#[tactic(auto, using(crate::proofs::OutsideForms::outside_forms))]
+pub fn outside(
+    alloc: Global,
+    shapes: &mut Shapes,
+    term: &Term,
+) -> Result<Option<Items<u32>>, AllocError>
+    requires shaped { IsShaped shapes.old term.now }
+    requires free { all_free (given shapes.old) ≡ true }
+    ensures node { IfOk result (λ o. o ≡ outside term.now (given shapes.old)) }
+    ensures shapes { OnOk result (shapes.new ≡ shapes.old) }
+{
+    match term {
+        Term::Lit(_) | Term::TVar(_) | Term::WordOf(_) => Ok(None),
+        Term::Index(_, _) => outside_word(alloc, term),
+        Term::Mul(_, _) => outside_word(alloc, term),
+        Term::Sub(a, _) => {
+            let words = outside_word(alloc, term)?;
+            let extents = extents_under(alloc, shapes, a.get())?;
+            Ok(difference(alloc, extents.as_slice(), words))
+        }
+        Term::Let(a, b) => {
+            let first = outside(alloc, shapes, a.get())?;
+            let extents = extents_under(alloc, shapes, a.get())?;
+            enter(alloc, shapes, extents)?;
+            let node = second(alloc, shapes, first, b.get())?;
+            leave(shapes);
+            Ok(node)
+        }
+        Term::Add(a, b) | Term::Concat(a, b) => {
+            let first = outside(alloc, shapes, a.get())?;
+            second(alloc, shapes, first, b.get())
+        }
+        Term::Gen(_, e)
+        | Term::Sum(_, e)
+        | Term::Guard(_, e)
+        | Term::Flatten(e)
+        | Term::Split(_, e)
+        | Term::Transpose(e)
+        | Term::TruncL(_, e)
+        | Term::TruncR(_, e)
+        | Term::PadL(_, e)
+        | Term::PadR(_, e) => {
+            let node = outside(alloc, shapes, e.get())?;
+            in_child(alloc, 0, node)
+        }
     }
 }

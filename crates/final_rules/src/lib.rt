@@ -3,16 +3,19 @@
 
 mod fault;
 mod final_module;
-mod form;
+pub mod form;
+pub mod frames;
 pub mod goal;
 pub mod laws;
+pub mod lines;
+pub mod lowerable;
+pub mod marks;
 pub mod read;
 pub mod spot;
-mod steps;
+pub mod steps;
 
 pub use fault::FinalFault;
 pub use final_module::Final;
-pub use form::outside_word;
 pub use goal::{Goal, GoalKind};
 pub use read::Read;
 pub use spot::{Around, Spot};
