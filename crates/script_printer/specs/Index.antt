@@ -1,5 +1,5 @@
 -- The canonical text of index expressions: parentheses stand exactly where it would otherwise read as another tree.
-use Rattle.std.specs.Prelude.{ℕ, Bool, true, false, if◌then◌else◌, [], ◌++◌, codes, decimal}
+use Rattle.std.specs.Prelude.{Bool, true, false, if◌then◌else◌, [], ◌++◌, codes, decimal}
 use Rattle.text_tokens.specs.Kinds.{Text}
 use Rattle.schedule_script.specs.declared.tree.IxTree.{IxTree, Num, Name}
 use Rattle.schedule_script.specs.declared.tree.IxTree.TheOpen.{IxTree-F}

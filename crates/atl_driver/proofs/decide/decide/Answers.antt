@@ -1,5 +1,5 @@
-use Rattle.std.proofs.Common.{◌≡◌, List, ℕ, Some, Err, map, sym, ap, ◌∙◌, subst}
-use Rattle.atl_driver.specs.Form.{Form, form_of, texts}
+use Rattle.std.proofs.Common.{sym}
+use Rattle.atl_driver.specs.Form.{form_of, texts}
 use Rattle.atl_driver.proofs.DecideLaws.{text_came, fault_came}
 use Rattle.atl_driver.proofs.FirstContent.{first_within}
 use Rattle.atl_driver.proofs.decide.decide.Goals as goal
