@@ -9,6 +9,7 @@ use std::alloc::{AllocError, Global};
 use std::marker::Model;
 use text_tokens::Kind;
 
+/// Why there is no text.
 #[derive(Debug, Drop, Clone, Copy, PartialEq, Eq)]
 pub enum PrintFault {
     Memory,
