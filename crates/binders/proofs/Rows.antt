@@ -1,11 +1,8 @@
 -- Lists made of a function of the index, and rows joined, in chunks and transposed.
 use Rattle.std.proofs.Common.{◌≡◌, ℕ, zero, suc, ◌+◌, ◌-◌, ◌*◌, ◌<◌, ◌≤◌, List, [], ◌∷◌, ◌++◌, length, map, drop, take, get_or, refl, ap, sym, ◌∙◌, arith, zero-add}
+use Rattle.term_tree.proofs.TensorLaws.{rows_of-from_rows}
 use Rattle.term_tree.specs.Meaning.{chunks, columns}
 use Rattle.term_tree.specs.Tensors.{Tensor, rows_of, from_rows, copies, tabulate, joined, drop_last}
-
-pub rows_of-from_rows : (xs : List Tensor) → rows_of (from_rows xs) ≡ xs
-rows_of-from_rows [] = refl
-rows_of-from_rows (x ∷ xs) = λ i. x ∷ rows_of-from_rows xs i
 
 module _ {A : Type 0} where
   pub length-tabulate : (n : ℕ) (f : ℕ → A) → length (tabulate n f) ≡ n

@@ -18,19 +18,19 @@ use Rattle.affine_index.specs.declared.form.Atom.{Atom}
 use Rattle.affine_index.specs.declared.form.Atom.TheVariants.{Size, Var, Div, Mul}
 use Rattle.affine_index.specs.declared.form.Item.{Item}
 use Rattle.affine_index.specs.declared.form.Items.{Items}
-use Rattle.fact_list.specs.Facts.{NormalAtom, above_quotient, below_next_quotient, extent_at, kept_form, kept_product, layer_limits, limit_if, limits_of, quotient_limits, single, size_limits, var_limits}
+use Rattle.fact_list.specs.Facts.{NormalAtom, above_quotient, below_next_quotient, extent_at, where_normal, normal_product, layer_limits, limit_if, limits_of, quotient_limits, single, size_limits, var_limits}
 use Rattle.fact_list.specs.declared.facts.Facts.{Facts}
 use Rattle.fact_list.specs.declared.role.Side.TheVariants.{Lower, Upper}
 
 -- a form that is kept
-pub kept-ok : (x r : Items) → r ≡ x → is_normal r ≡ true → Some r ≡ kept_form x
+pub kept-ok : (x r : Items) → r ≡ x → is_normal r ≡ true → Some r ≡ where_normal x
 kept-ok x r e h = by (is_normal x) (sym (ap is_normal e) ∙ h)
   where
     by : (b : Bool) → b ≡ true → Some r ≡ (if b then Some x else None)
     by true f = ap Some e
     by false f = absurd (cc)
 
-none-kept : (x : Items) → is_normal x ≡ false → None ≡ kept_form x
+none-kept : (x : Items) → is_normal x ≡ false → None ≡ where_normal x
 none-kept x h = by (is_normal x) h
   where
     by : (b : Bool) → b ≡ false → None ≡ (if b then Some x else None)
@@ -47,24 +47,24 @@ and-last true false c e = refl
 and-last false b c e = refl
 
 -- forms that are left out
-pub kept-large : (x : Items) → coefficients_fit x ≡ false → None ≡ kept_form x
+pub kept-large : (x : Items) → coefficients_fit x ≡ false → None ≡ where_normal x
 kept-large x h = none-kept x (and-false (is_ordered x) (coefficients_fit x) (is_short x) h)
 
-pub kept-long : (x : Items) → is_short x ≡ false → None ≡ kept_form x
+pub kept-long : (x : Items) → is_short x ≡ false → None ≡ where_normal x
 kept-long x h = none-kept x (and-last (is_ordered x) (coefficients_fit x) (is_short x) h)
 
 -- a product of forms that do not both hold a variable
-pub product-apart : (a b : Items) (o : Option Items) → (holds_var a && holds_var b) ≡ false → o ≡ kept_form (product_of a b) → o ≡ kept_product a b
+pub product-apart : (a b : Items) (o : Option Items) → (holds_var a && holds_var b) ≡ false → o ≡ where_normal (product_of a b) → o ≡ normal_product a b
 product-apart a b o e h = by (holds_var a && holds_var b) e
   where
-    by : (z : Bool) → z ≡ false → o ≡ (if z then None else kept_form (product_of a b))
+    by : (z : Bool) → z ≡ false → o ≡ (if z then None else where_normal (product_of a b))
     by true f = absurd (cc)
     by false f = h
 
-pub product-both : (a b : Items) → (holds_var a && holds_var b) ≡ true → None ≡ kept_product a b
+pub product-both : (a b : Items) → (holds_var a && holds_var b) ≡ true → None ≡ normal_product a b
 product-both a b e = by (holds_var a && holds_var b) e
   where
-    by : (z : Bool) → z ≡ true → None ≡ (if z then None else kept_form (product_of a b))
+    by : (z : Bool) → z ≡ true → None ≡ (if z then None else where_normal (product_of a b))
     by true f = refl
     by false f = absurd (cc)
 
@@ -100,7 +100,7 @@ small_is : (z : ℤ) → unsigned_abs z ≤ 2 ^ 40 → coefficient_fits z ≡ tr
 small_is z h = grind arith
 
 -- a constant that is too large
-pub single-large : (c : ℤ) (a : Atom) (z : ℤ) → 2 ^ 40 < unsigned_abs z → None ≡ kept_form (single c a z)
+pub single-large : (c : ℤ) (a : Atom) (z : ℤ) → 2 ^ 40 < unsigned_abs z → None ≡ where_normal (single c a z)
 single-large c a z h = kept-large (single c a z) (last (coefficient_fits c && true) (coefficient_fits z) (large_is z h))
   where
     last : (a b : Bool) → b ≡ false → (a && b) ≡ false
@@ -173,7 +173,7 @@ quotient-times i k z n h =
     single-normal (pos k) (Div i k) (pos z) n (positive_other k d.some) (small_is (pos k) (omega (arith, d.most))) (small_is (pos z) (omega (arith, d.most, h)))
 
 -- the two bounds of a quotient by a number above 0
-pub quotient-limits_is : (i : Items) (k : ℕ) → 0 < k → quotient_limits i k ≡ limit_if Upper (kept_form (above_quotient i k)) ++ limit_if Lower (kept_form (below_next_quotient i k))
+pub quotient-limits_is : (i : Items) (k : ℕ) → 0 < k → quotient_limits i k ≡ limit_if Upper (where_normal (above_quotient i k)) ++ limit_if Lower (where_normal (below_next_quotient i k))
 quotient-limits_is i zero h = absurd (omega arith)
 quotient-limits_is i (suc k) h = refl
 

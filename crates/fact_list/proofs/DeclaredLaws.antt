@@ -13,7 +13,7 @@ use Rattle.affine_index.specs.declared.form.Atom.TheVariants.{Size, Var}
 use Rattle.affine_index.specs.declared.form.Items.{Items}
 use Rattle.fact_list.proofs.Appending.{append-next, drop-item}
 use Rattle.fact_list.proofs.CodeLaws.{kept-ok, single-normal, size-less, size-once, var-atom, var-next}
-use Rattle.fact_list.specs.Facts.{above_low, below_extent, below_high, binders, bound_facts, cmps_fit, fact_if, kept_form, moved_cmp, moved_facts, moves_fit, path_facts, single, size_facts, stated, stated_facts, stated_if, step_facts, step_fits}
+use Rattle.fact_list.specs.Facts.{above_low, below_extent, below_high, binders, bound_facts, cmps_fit, fact_if, where_normal, moved_cmp, moved_facts, moves_fit, path_facts, single, size_facts, stated, stated_facts, stated_if, step_facts, step_fits}
 use Rattle.fact_list.specs.declared.facts.PathFact.{PathFact}
 use Rattle.fact_list.specs.declared.facts.PathFact.TheVariants.{Bound, Holds}
 use Rattle.fact_list.specs.declared.facts.SizeBounds.{SizeBounds}
@@ -34,7 +34,7 @@ none_by x d true e = absurd (cc)
 none_by x d false e = refl
 
 -- a comparison whose moved form is left out
-pub moved-none : (by : ℕ) (c : Cmp) → None ≡ kept_form (shifted 0 by (cmp_form c)) → stated_if (is_normal (cmp_form (moved_cmp by c))) (moved_cmp by c) ≡ []
+pub moved-none : (by : ℕ) (c : Cmp) → None ≡ where_normal (shifted 0 by (cmp_form c)) → stated_if (is_normal (cmp_form (moved_cmp by c))) (moved_cmp by c) ≡ []
 moved-none by (Ge x) e = none_by (shifted 0 by x) (moved_cmp by (Ge x)) (is_normal (shifted 0 by x)) e
 moved-none by (Eq x) e = none_by (shifted 0 by x) (moved_cmp by (Eq x)) (is_normal (shifted 0 by x)) e
 
@@ -43,12 +43,12 @@ some_is y x true e = (cc, refl)
 some_is y x false e = absurd (cc)
 
 -- one whose moved form is kept
-pub moved-Ge : (by : ℕ) (x y : Items) → Some y ≡ kept_form (shifted 0 by x) → stated_if (is_normal (cmp_form (moved_cmp by (Ge x)))) (moved_cmp by (Ge x)) ≡ stated (Ge y) ∷ []
+pub moved-Ge : (by : ℕ) (x y : Items) → Some y ≡ where_normal (shifted 0 by x) → stated_if (is_normal (cmp_form (moved_cmp by (Ge x)))) (moved_cmp by (Ge x)) ≡ stated (Ge y) ∷ []
 moved-Ge by x y e =
     let p = some_is y (shifted 0 by x) (is_normal (shifted 0 by x)) e in
     (λ k. stated_if (p.1 k) (Ge (sym p.0 k)))
 
-pub moved-Eq : (by : ℕ) (x y : Items) → Some y ≡ kept_form (shifted 0 by x) → stated_if (is_normal (cmp_form (moved_cmp by (Eq x)))) (moved_cmp by (Eq x)) ≡ stated (Eq y) ∷ []
+pub moved-Eq : (by : ℕ) (x y : Items) → Some y ≡ where_normal (shifted 0 by x) → stated_if (is_normal (cmp_form (moved_cmp by (Eq x)))) (moved_cmp by (Eq x)) ≡ stated (Eq y) ∷ []
 moved-Eq by x y e =
     let p = some_is y (shifted 0 by x) (is_normal (shifted 0 by x)) e in
     (λ k. stated_if (p.1 k) (Eq (sym p.0 k)))
@@ -56,12 +56,12 @@ moved-Eq by x y e =
 pub var-once : (v : ℕ) → is_normal (single (pos 1) (Var v) (pos 0)) ≡ true
 var-once v = single-normal (pos 1) (Var v) (pos 0) (var-atom v) refl refl refl
 
-pub var-kept : (v : ℕ) → Some (single (pos 1) (Var v) (pos 0)) ≡ kept_form (var_form v)
+pub var-kept : (v : ℕ) → Some (single (pos 1) (Var v) (pos 0)) ≡ where_normal (var_form v)
 var-kept v = kept-ok (var_form v) (single (pos 1) (Var v) (pos 0)) refl (var-once v)
 
 -- the facts of a path from a binder on
 pub path-Bound : (n : Items) (ps : List PathFact) → path_facts (Bound n ∷ ps) ≡ bound_facts (binders ps) n ++ path_facts ps
-path-Bound n ps = sym (append_assoc (fact_if _ (kept_form (var_form (binders ps)))) (fact_if _ (kept_form (below_extent (binders ps) n))) (path_facts ps))
+path-Bound n ps = sym (append_assoc (fact_if _ (where_normal (var_form (binders ps)))) (fact_if _ (where_normal (below_extent (binders ps) n))) (path_facts ps))
 
 pub binders-few : (ps : List PathFact) → binders ps ≤ length ps
 binders-few [] = omega arith
@@ -112,12 +112,12 @@ moved-next by = append-next (moved_facts by) (λ c. stated_if (is_normal (cmp_fo
 pub stated-next : (cs : List Cmp) (i : ℕ) (c : Cmp) (l m : List Fact) → i < length cs → c ≡ get_or cs i c → m ≡ l ++ stated_if (is_normal (cmp_form c)) c → m ++ stated_facts (drop (i + 1) cs) ≡ l ++ stated_facts (drop i cs)
 stated-next = append-next stated_facts (λ c. stated_if (is_normal (cmp_form c)) c) (λ x xs. refl)
 
-pub size-next : (bs : List SizeBounds) (i : ℕ) (d : SizeBounds) (x y : Option Items) (l m n : List Fact) → i < length bs → x ≡ kept_form (above_low i (get_or bs i d).low) → y ≡ kept_form (below_high i (get_or bs i d).high)
+pub size-next : (bs : List SizeBounds) (i : ℕ) (d : SizeBounds) (x y : Option Items) (l m n : List Fact) → i < length bs → x ≡ where_normal (above_low i (get_or bs i d).low) → y ≡ where_normal (below_high i (get_or bs i d).high)
     → m ≡ l ++ fact_if (BoundOf Lower (Size i)) x → n ≡ m ++ fact_if (BoundOf Upper (Size i)) y → n ++ size_facts (i + 1) (drop (i + 1) bs) ≡ l ++ size_facts i (drop i bs)
 size-next bs i d x y l m n h ex ey em en =
     let b = get_or bs i d in
-    let low = fact_if (BoundOf Lower (Size i)) (kept_form (above_low i b.low)) in
-    let high = fact_if (BoundOf Upper (Size i)) (kept_form (below_high i b.high)) in
+    let low = fact_if (BoundOf Lower (Size i)) (where_normal (above_low i b.low)) in
+    let high = fact_if (BoundOf Upper (Size i)) (where_normal (below_high i b.high)) in
     let rest = size_facts (i + 1) (drop (i + 1) bs) in
     ap (λ z. z ++ rest) (en ∙ (λ k. em k ++ fact_if (BoundOf Upper (Size i)) (ey k)) ∙ ap (λ o. (l ++ fact_if (BoundOf Lower (Size i)) o) ++ high) ex)
     ∙ append_assoc (l ++ low) high rest ∙ append_assoc l low (high ++ rest)

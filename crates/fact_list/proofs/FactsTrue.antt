@@ -25,7 +25,7 @@ use Rattle.fact_list.proofs.AddLaws.{without-each}
 use Rattle.affine_index.proofs.ArithmeticLaws.{normal-ordered}
 use Rattle.fact_list.proofs.PartsOrdered.{parts-ordered}
 use Rattle.fact_list.proofs.NotNegative.{atom-not_negative, times-not_negative}
-use Rattle.fact_list.specs.Facts.{above_low, above_quotient, all_factor_facts, atom_facts, below_extent, below_high, below_next_quotient, binders, declared_facts, extent_at, fact_if, factor_facts, facts_of, followed, is_kept, kept_form, kept_product, layer_facts, layer_limits, limit_facts, limit_if, limit_products, limit_products_if, limits_of, meet, meet_all, moved_cmp, moved_facts, path_facts, product_of_others, quotient_limits, single, size_facts, size_limits, stated_facts, stated_if, times_others, var_limits}
+use Rattle.fact_list.specs.Facts.{above_low, above_quotient, all_factor_facts, atom_facts, below_extent, below_high, below_next_quotient, binders, declared_facts, extent_at, fact_if, factor_facts, facts_of, followed, is_normal_fact, where_normal, normal_product, layer_facts, layer_limits, limit_facts, limit_if, limit_products, limit_products_if, limits_of, meet, meet_all, moved_cmp, moved_facts, path_facts, product_of_others, quotient_limits, single, size_facts, size_limits, stated_facts, stated_if, times_others, var_limits}
 use Rattle.fact_list.specs.Atoms.{different, stands_in, without}
 use Rattle.fact_list.specs.Truth.{AllTrue, FactTrue, ListedFactsHold}
 use Rattle.fact_list.specs.Within.{form_parts}
@@ -61,7 +61,7 @@ module _ (s r : List ℕ) where
   -- facts within the limits that hold
   abbrev pub AllGood : List Fact → Type 0
   AllGood [] = Unit {0}
-  AllGood (x ∷ xs) = ((is_kept x ≡ true) × FactTrue s r x) × AllGood xs
+  AllGood (x ∷ xs) = ((is_normal_fact x ≡ true) × FactTrue s r x) × AllGood xs
 
   pub good-true : (xs : List Fact) → AllGood xs → AllTrue s r xs
   good-true [] h = tt
@@ -92,28 +92,28 @@ module _ (s r : List ℕ) where
   limits-append (l ∷ ls) ms h g = (h.0, limits-append ls ms h.1 g)
 
   -- a form that is kept, where the fact with it holds
-  fact-good : (role : Role) (x : Items) → AllTrue s r (fact_if role (kept_form x)) → AllGood (fact_if role (kept_form x))
+  fact-good : (role : Role) (x : Items) → AllTrue s r (fact_if role (where_normal x)) → AllGood (fact_if role (where_normal x))
   fact-good role x = by (is_normal x) refl
     where
       by : (b : Bool) → is_normal x ≡ b → AllTrue s r (fact_if role (if b then Some x else None)) → AllGood (fact_if role (if b then Some x else None))
       by true e h = ((e, h.0), tt)
       by false e h = tt
 
-  value-good : (role : Role) (x : Items) → pos 0 ≤ℤ items_value s r x → AllGood (fact_if role (kept_form x))
+  value-good : (role : Role) (x : Items) → pos 0 ≤ℤ items_value s r x → AllGood (fact_if role (where_normal x))
   value-good role x h = by (is_normal x) refl
     where
       by : (b : Bool) → is_normal x ≡ b → AllGood (fact_if role (if b then Some x else None))
       by true e = ((e, at_least_zero-from (items_value s r x) h), tt)
       by false e = tt
 
-  value-limit : (side : Side) (x : Items) → pos 0 ≤ℤ items_value s r x → AllLimits (limit_if side (kept_form x))
+  value-limit : (side : Side) (x : Items) → pos 0 ≤ℤ items_value s r x → AllLimits (limit_if side (where_normal x))
   value-limit side x h = by (is_normal x) refl
     where
       by : (b : Bool) → is_normal x ≡ b → AllLimits (limit_if side (if b then Some x else None))
       by true e = ((e, h), tt)
       by false e = tt
 
-  fact-limit : (side : Side) (role : Role) (x : Items) → AllTrue s r (fact_if role (kept_form x)) → AllLimits (limit_if side (kept_form x))
+  fact-limit : (side : Side) (role : Role) (x : Items) → AllTrue s r (fact_if role (where_normal x)) → AllLimits (limit_if side (where_normal x))
   fact-limit side role x = by (is_normal x) refl
     where
       by : (b : Bool) → is_normal x ≡ b → AllTrue s r (fact_if role (if b then Some x else None)) → AllLimits (limit_if side (if b then Some x else None))
@@ -130,8 +130,8 @@ module _ (s r : List ℕ) where
   sizes-good : (k : ℕ) (bs : List SizeBounds) → AllTrue s r (size_facts k bs) → AllGood (size_facts k bs)
   sizes-good k [] h = tt
   sizes-good k (b ∷ bs) h =
-      let x = fact_if (BoundOf Lower (Size k)) (kept_form (above_low k b.low)) in
-      let y = fact_if (BoundOf Upper (Size k)) (kept_form (below_high k b.high)) in
+      let x = fact_if (BoundOf Lower (Size k)) (where_normal (above_low k b.low)) in
+      let y = fact_if (BoundOf Upper (Size k)) (where_normal (below_high k b.high)) in
       good-append x (y ++ size_facts (suc k) bs) (fact-good _ (above_low k b.low) (true-left x _ h))
       (good-append y (size_facts (suc k) bs) (fact-good _ (below_high k b.high) (true-left y (size_facts (suc k) bs) (true-right x _ h))) (sizes-good (suc k) bs (true-right y (size_facts (suc k) bs) (true-right x _ h))))
 
@@ -152,8 +152,8 @@ module _ (s r : List ℕ) where
   path-good [] h = tt
   path-good (Bound n ∷ ps) h =
       let v = binders ps in
-      let x = fact_if (BoundOf Lower (Var v)) (kept_form (var_form v)) in
-      let y = fact_if (BoundOf Upper (Var v)) (kept_form (below_extent v n)) in
+      let x = fact_if (BoundOf Lower (Var v)) (where_normal (var_form v)) in
+      let y = fact_if (BoundOf Upper (Var v)) (where_normal (below_extent v n)) in
       good-append x (y ++ path_facts ps) (fact-good _ (var_form v) (true-left x _ h))
       (good-append y (path_facts ps) (fact-good _ (below_extent v n) (true-left y (path_facts ps) (true-right x _ h))) (path-good ps (true-right y (path_facts ps) (true-right x _ h))))
   path-good (Holds c ∷ ps) h =
@@ -164,22 +164,22 @@ module _ (s r : List ℕ) where
   size-limits [] k n m e h = tt
   size-limits (b ∷ bs) k zero m e h =
       let same : k ≡ m = omega arith in
-      let x = fact_if (BoundOf Lower (Size k)) (kept_form (above_low k b.low)) in
-      let y = fact_if (BoundOf Upper (Size k)) (kept_form (below_high k b.high)) in
+      let x = fact_if (BoundOf Lower (Size k)) (where_normal (above_low k b.low)) in
+      let y = fact_if (BoundOf Upper (Size k)) (where_normal (below_high k b.high)) in
       subst (λ (z : ℕ). AllLimits (size_limits z (Some b))) same
-      (limits-append (limit_if Lower (kept_form (above_low k b.low))) (limit_if Upper (kept_form (below_high k b.high))) (fact-limit Lower _ (above_low k b.low) (true-left x _ h))
+      (limits-append (limit_if Lower (where_normal (above_low k b.low))) (limit_if Upper (where_normal (below_high k b.high))) (fact-limit Lower _ (above_low k b.low) (true-left x _ h))
       (fact-limit Upper _ (below_high k b.high) (true-left y (size_facts (suc k) bs) (true-right x _ h))))
   size-limits (b ∷ bs) k (suc n) m e h =
-      let x = fact_if (BoundOf Lower (Size k)) (kept_form (above_low k b.low)) in
-      let y = fact_if (BoundOf Upper (Size k)) (kept_form (below_high k b.high)) in
+      let x = fact_if (BoundOf Lower (Size k)) (where_normal (above_low k b.low)) in
+      let y = fact_if (BoundOf Upper (Size k)) (where_normal (below_high k b.high)) in
       size-limits bs (suc k) n m (omega arith) (true-right y (size_facts (suc k) bs) (true-right x _ h))
 
   one_extent : (n : Items) (ps : List PathFact) (v : ℕ) (b : Bool) → eqb v (binders ps) ≡ b → AllTrue s r (path_facts (Bound n ∷ ps)) → AllLimits (var_limits v (extent_at ps v))
       → AllLimits (var_limits v (if b then Some n else extent_at ps v))
   one_extent n ps v true e h rest =
       let w = binders ps in
-      let x = fact_if (BoundOf Lower (Var w)) (kept_form (var_form w)) in
-      let y = fact_if (BoundOf Upper (Var w)) (kept_form (below_extent w n)) in
+      let x = fact_if (BoundOf Lower (Var w)) (where_normal (var_form w)) in
+      let y = fact_if (BoundOf Upper (Var w)) (where_normal (below_extent w n)) in
       subst (λ (z : ℕ). AllLimits (var_limits z (Some n))) (sym (same_number v w e)) (fact-limit Upper _ (below_extent w n) (true-left y (path_facts ps) (true-right x _ h)))
   one_extent n ps v false e h rest = rest
 
@@ -187,8 +187,8 @@ module _ (s r : List ℕ) where
   var-limits [] v h = tt
   var-limits (Bound n ∷ ps) v h =
       let w = binders ps in
-      let x = fact_if (BoundOf Lower (Var w)) (kept_form (var_form w)) in
-      let y = fact_if (BoundOf Upper (Var w)) (kept_form (below_extent w n)) in
+      let x = fact_if (BoundOf Lower (Var w)) (where_normal (var_form w)) in
+      let y = fact_if (BoundOf Upper (Var w)) (where_normal (below_extent w n)) in
       one_extent n ps v (eqb v w) refl h (var-limits ps v (true-right y (path_facts ps) (true-right x _ h)))
   var-limits (Holds c ∷ ps) v h = var-limits ps v (true-right (moved_facts (binders ps) c.all) (path_facts ps) h)
 
@@ -211,7 +211,7 @@ module _ (s r : List ℕ) where
       let more = value-single (pos n) (Div a n) (pos (n - 1)) in
       let first = value-difference s r a (single (pos n) (Div a n) (pos 0)) in
       let second = value-difference s r (single (pos n) (Div a n) (pos (n - 1))) a in
-      limits-append (limit_if Upper (kept_form (above_quotient a n))) (limit_if Lower (kept_form (below_next_quotient a n)))
+      limits-append (limit_if Upper (where_normal (above_quotient a n))) (limit_if Lower (where_normal (below_next_quotient a n)))
       (value-limit Upper (above_quotient a n) (omega (arith, ints, times, whole, rest, below, none, first)))
       (value-limit Lower (below_next_quotient a n) (omega (arith, ints, times, whole, rest, below, more, second)))
 
@@ -220,7 +220,7 @@ module _ (s r : List ℕ) where
   SomeNotNegative None = Unit {0}
   SomeNotNegative (Some g) = pos 0 ≤ℤ items_value s r g
 
-  product-some : (a b : Items) → pos 0 ≤ℤ items_value s r a → pos 0 ≤ℤ items_value s r b → SomeNotNegative (kept_product a b)
+  product-some : (a b : Items) → pos 0 ≤ℤ items_value s r a → pos 0 ≤ℤ items_value s r b → SomeNotNegative (normal_product a b)
   product-some a b h g = by (holds_var a && holds_var b) (is_normal (product_of a b))
     where
       by : (y z : Bool) → SomeNotNegative (if y then None else (if z then Some (product_of a b) else None))
@@ -255,16 +255,16 @@ module _ (s r : List ℕ) where
     layer-limits (Atom-F.Div a k) = quotient-limits a k
     layer-limits (Atom-F.Mul fs) = tt
 
-    product-good : (role : Role) (a b : Items) → pos 0 ≤ℤ items_value s r a → pos 0 ≤ℤ items_value s r b → AllGood (fact_if role (kept_product a b))
+    product-good : (role : Role) (a b : Items) → pos 0 ≤ℤ items_value s r a → pos 0 ≤ℤ items_value s r b → AllGood (fact_if role (normal_product a b))
     product-good role a b h g = by (holds_var a && holds_var b)
       where
-        by : (z : Bool) → AllGood (fact_if role (if z then None else kept_form (product_of a b)))
+        by : (z : Bool) → AllGood (fact_if role (if z then None else where_normal (product_of a b)))
         by true = tt
         by false = value-good role (product_of a b) (subst (λ (z : ℤ). pos 0 ≤ℤ z) (sym (value-product s r a b)) (times-not_negative (items_value s r a) (items_value s r b) h g))
 
     products-good : (m a : Atom) (g : Items) (ls : List Limit) → AllLimits ls → pos 0 ≤ℤ items_value s r g → AllGood (limit_products m a g ls)
     products-good m a g [] h p = tt
-    products-good m a g (l ∷ ls) h p = good-append (fact_if (FactorOf l.side a m) (kept_product l.form g)) (limit_products m a g ls) (product-good (FactorOf l.side a m) l.form g h.0.1 p) (products-good m a g ls h.1 p)
+    products-good m a g (l ∷ ls) h p = good-append (fact_if (FactorOf l.side a m) (normal_product l.form g)) (limit_products m a g ls) (product-good (FactorOf l.side a m) l.form g h.0.1 p) (products-good m a g ls h.1 p)
 
     products_if-good : (m a : Atom) (o : Option Items) (ls : List Limit) → AllLimits ls → SomeNotNegative o → AllGood (limit_products_if m a o ls)
     products_if-good m a None ls h p = tt
@@ -287,7 +287,7 @@ module _ (s r : List ℕ) where
         (λ v o. subst (λ (y : Atom-F Atom Items). AllGood (layer_facts f y)) (sym (out-Var v)) tt)
         (λ i k o. subst (λ (y : Atom-F Atom Items). AllGood (layer_facts f y)) (sym (out-Div i k)) (quotient-good (Div i k) (quotient_limits i k) (quotient-limits i k)))
         (λ fs o. subst (λ (y : Atom-F Atom Items). AllGood (layer_facts f y)) (sym (out-Mul fs))
-        (good-append (fact_if (ProductOf (Mul fs)) (kept_form (of_atom (Mul fs)))) (all_factor_facts f fs (different fs))
+        (good-append (fact_if (ProductOf (Mul fs)) (where_normal (of_atom (Mul fs)))) (all_factor_facts f fs (different fs))
         (value-good (ProductOf (Mul fs)) (of_atom (Mul fs)) (subst (λ (z : ℤ). pos 0 ≤ℤ z) (sym (value-of_atom s r (Mul fs))) (atom-not_negative s r (Mul fs) o))) (factors-good fs (different fs) (mul_parts fs o).good.ordered)))
 
     meet-good : (m : Met) (a : Atom) → Ordered a → AllGood m.facts → AllGood (meet f m a).facts

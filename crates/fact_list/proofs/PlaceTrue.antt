@@ -18,8 +18,8 @@ use Rattle.affine_index.specs.declared.form.Atom.TheVariants.{Size, Var}
 use Rattle.affine_index.specs.declared.form.Items.{Items}
 use Rattle.affine_index.proofs.ArithmeticLaws.{normal-ordered}
 use Rattle.fact_list.proofs.FactsTrue.{at_least_zero-from}
-use Rattle.fact_list.specs.Facts.{above_low, below_extent, below_high, binders, declared_facts, fact_if, kept_form, moved_cmp, moved_facts, path_facts, single, size_facts, stated_facts, stated_if}
-use Rattle.fact_list.specs.Normal.{AllKept, PathKept}
+use Rattle.fact_list.specs.Facts.{above_low, below_extent, below_high, binders, declared_facts, fact_if, where_normal, moved_cmp, moved_facts, path_facts, single, size_facts, stated_facts, stated_if}
+use Rattle.fact_list.specs.Normal.{CmpsNormal, PathNormal}
 use Rattle.fact_list.specs.Truth.{AllTrue, DeclaredFactsHold, FactsHold, PathHolds, SizesWithin}
 use Rattle.fact_list.specs.declared.facts.Facts.{Facts}
 use Rattle.fact_list.specs.declared.facts.PathFact.{PathFact}
@@ -33,7 +33,7 @@ module _ (s r : List ℕ) where
   true-append [] ys h g = g
   true-append (x ∷ xs) ys h g = (h.0, true-append xs ys h.1 g)
 
-  kept-true : (role : Role) (x : Items) → pos 0 ≤ℤ items_value s r x → AllTrue s r (fact_if role (kept_form x))
+  kept-true : (role : Role) (x : Items) → pos 0 ≤ℤ items_value s r x → AllTrue s r (fact_if role (where_normal x))
   kept-true role x h = by (is_normal x)
     where
       by : (b : Bool) → AllTrue s r (fact_if role (if b then Some x else None))
@@ -56,8 +56,8 @@ module _ (s r : List ℕ) where
   sizes-true : (k : ℕ) (bs : List SizeBounds) → SizesWithin s k bs → AllTrue s r (size_facts k bs)
   sizes-true k [] h = tt
   sizes-true k (b ∷ bs) h =
-      true-append (fact_if _ (kept_form (above_low k b.low))) _ (kept-true _ (above_low k b.low) (low-value k b.low h.0))
-      (true-append (fact_if _ (kept_form (below_high k b.high))) (size_facts (suc k) bs) (kept-true _ (below_high k b.high) (high-value k b.high h.1)) (sizes-true (suc k) bs h.2))
+      true-append (fact_if _ (where_normal (above_low k b.low))) _ (kept-true _ (above_low k b.low) (low-value k b.low h.0))
+      (true-append (fact_if _ (where_normal (below_high k b.high))) (size_facts (suc k) bs) (kept-true _ (below_high k b.high) (high-value k b.high h.1)) (sizes-true (suc k) bs h.2))
 
   assumes-true : (cs : List Cmp) → all_hold s r cs ≡ true → AllTrue s r (stated_facts cs)
   assumes-true [] h = tt
@@ -75,7 +75,7 @@ module _ (s r : List ℕ) where
   moved-holds by (Ge x) n h = ap (cmp_at (Ge x)) (moved-value by x (normal-ordered x n)) ∙ h
   moved-holds by (Eq x) n h = ap (cmp_at (Eq x)) (moved-value by x (normal-ordered x n)) ∙ h
 
-  moved-true : (by : ℕ) (cs : List Cmp) → AllKept cs → all_hold s (drop by r) cs ≡ true → AllTrue s r (moved_facts by cs)
+  moved-true : (by : ℕ) (cs : List Cmp) → CmpsNormal cs → all_hold s (drop by r) cs ≡ true → AllTrue s r (moved_facts by cs)
   moved-true by [] n h = tt
   moved-true by (c ∷ cs) n h =
       let a = and_parts (cmp_holds s (drop by r) c) (all_hold s (drop by r) cs) h in
@@ -91,15 +91,15 @@ module _ (s r : List ℕ) where
       let w = ap (λ (z : ℤ). pos 1 *ℤ z) (value-Var s r v) in
       omega (arith, ints)
 
-  path-true : (ps : List PathFact) → PathKept ps → PathHolds s r ps → AllTrue s r (path_facts ps)
+  path-true : (ps : List PathFact) → PathNormal ps → PathHolds s r ps → AllTrue s r (path_facts ps)
   path-true [] n h = tt
   path-true (Bound x ∷ ps) n h =
       let v = binders ps in
-      true-append (fact_if _ (kept_form (var_form v))) _ (kept-true _ (var_form v) (var-value v))
-      (true-append (fact_if _ (kept_form (below_extent v x))) (path_facts ps) (kept-true _ (below_extent v x) (below-value v x h.0)) (path-true ps n h.1))
+      true-append (fact_if _ (where_normal (var_form v))) _ (kept-true _ (var_form v) (var-value v))
+      (true-append (fact_if _ (where_normal (below_extent v x))) (path_facts ps) (kept-true _ (below_extent v x) (below-value v x h.0)) (path-true ps n h.1))
   path-true (Holds c ∷ ps) n h = true-append (moved_facts (binders ps) c.all) (path_facts ps) (moved-true (binders ps) c.all n.0 h.0) (path-true ps n.1 h.1)
 
-  pub declared-true : (f : Facts) → PathKept f.path → FactsHold f s r → AllTrue s r (declared_facts f)
+  pub declared-true : (f : Facts) → PathNormal f.path → FactsHold f s r → AllTrue s r (declared_facts f)
   declared-true f n h =
       true-append (size_facts 0 f.sizes) (stated_facts f.assumes ++ path_facts f.path) (sizes-true 0 f.sizes h.0)
       (true-append (stated_facts f.assumes) (path_facts f.path) (assumes-true f.assumes h.1) (path-true f.path n h.2))

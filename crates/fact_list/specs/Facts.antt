@@ -71,8 +71,8 @@ abbrev pub below_next_quotient : Items → ℕ → Items
 below_next_quotient a k = difference_of (single (pos k) (Div a k) (pos (k - 1))) a
 
 -- a form, if it is one of normal forms within the limits
-abbrev pub kept_form : Items → Option Items
-kept_form x = if is_normal x then Some x else None
+abbrev pub where_normal : Items → Option Items
+where_normal x = if is_normal x then Some x else None
 
 -- a fact, if there is a form
 abbrev pub fact_if : Role → Option Items → List Fact
@@ -83,7 +83,7 @@ fact_if role (Some x) = at_least role x ∷ []
 abbrev pub size_facts : ℕ → List SizeBounds → List Fact
 size_facts s [] = []
 size_facts s (b ∷ bs) =
-    fact_if (BoundOf Lower (Size s)) (kept_form (above_low s b.low)) ++ (fact_if (BoundOf Upper (Size s)) (kept_form (below_high s b.high)) ++ size_facts (suc s) bs)
+    fact_if (BoundOf Lower (Size s)) (where_normal (above_low s b.low)) ++ (fact_if (BoundOf Upper (Size s)) (where_normal (below_high s b.high)) ++ size_facts (suc s) bs)
 
 -- a comparison, if it is kept
 abbrev pub stated_if : Bool → Cmp → List Fact
@@ -104,7 +104,7 @@ stated_facts (c ∷ cs) = stated_if (is_normal (cmp_form c)) c ++ stated_facts c
 abbrev pub path_facts : List PathFact → List Fact
 path_facts [] = []
 path_facts (Bound n ∷ ps) =
-    fact_if (BoundOf Lower (Var (binders ps))) (kept_form (var_form (binders ps))) ++ (fact_if (BoundOf Upper (Var (binders ps))) (kept_form (below_extent (binders ps) n)) ++ path_facts ps)
+    fact_if (BoundOf Lower (Var (binders ps))) (where_normal (var_form (binders ps))) ++ (fact_if (BoundOf Upper (Var (binders ps))) (where_normal (below_extent (binders ps) n)) ++ path_facts ps)
 path_facts (Holds c ∷ ps) = moved_facts (binders ps) c.all ++ path_facts ps
 
 -- the facts that are declared: the sizes, the assumes, the path
@@ -125,17 +125,17 @@ limit_if side (Some x) = record { side = side; form = x } ∷ []
 -- the bounds of a size
 abbrev pub size_limits : ℕ → Option SizeBounds → List Limit
 size_limits s None = []
-size_limits s (Some b) = limit_if Lower (kept_form (above_low s b.low)) ++ limit_if Upper (kept_form (below_high s b.high))
+size_limits s (Some b) = limit_if Lower (where_normal (above_low s b.low)) ++ limit_if Upper (where_normal (below_high s b.high))
 
 -- the upper bound of a variable
 abbrev pub var_limits : ℕ → Option Items → List Limit
 var_limits v None = []
-var_limits v (Some n) = limit_if Upper (kept_form (below_extent v n))
+var_limits v (Some n) = limit_if Upper (where_normal (below_extent v n))
 
 -- the two facts of a quotient by a number above 0
 abbrev pub quotient_limits : Items → ℕ → List Limit
 quotient_limits a zero = []
-quotient_limits a (suc k) = limit_if Upper (kept_form (above_quotient a (suc k))) ++ limit_if Lower (kept_form (below_next_quotient a (suc k)))
+quotient_limits a (suc k) = limit_if Upper (where_normal (above_quotient a (suc k))) ++ limit_if Lower (where_normal (below_next_quotient a (suc k)))
 
 -- the bounds of a size, a variable or a quotient that are within the limits of normal forms
 abbrev pub layer_limits : Facts → Atom-F Atom Items → List Limit
@@ -153,13 +153,13 @@ abbrev pub NormalAtom : Atom → Type 0
 NormalAtom a = (atom_is_ordered a ≡ true) × (atom_count a ≤ 128)
 
 -- the product of two forms, if it is one of normal forms within the limits, in which no atom holds two index variables
-abbrev pub kept_product : Items → Items → Option Items
-kept_product a b = if holds_var a && holds_var b then None else kept_form (product_of a b)
+abbrev pub normal_product : Items → Items → Option Items
+normal_product a b = if holds_var a && holds_var b then None else where_normal (product_of a b)
 
 -- a factor times a product of others, if there is one
 abbrev pub times_others : Atom → Option Items → Option Items
 times_others f None = None
-times_others f (Some g) = kept_product (of_atom f) g
+times_others f (Some g) = normal_product (of_atom f) g
 
 -- the product of some factors, if it is one of normal forms within the limits
 abbrev pub product_of_others : List Atom → Option Items
@@ -169,7 +169,7 @@ product_of_others (f ∷ fs) = times_others f (product_of_others fs)
 -- bounds of a factor of a product times a form
 abbrev pub limit_products : Atom → Atom → Items → List Limit → List Fact
 limit_products m a g [] = []
-limit_products m a g (l ∷ ls) = fact_if (FactorOf l.side a m) (kept_product l.form g) ++ limit_products m a g ls
+limit_products m a g (l ∷ ls) = fact_if (FactorOf l.side a m) (normal_product l.form g) ++ limit_products m a g ls
 
 -- the same where there is a form
 abbrev pub limit_products_if : Atom → Atom → Option Items → List Limit → List Fact
@@ -186,8 +186,8 @@ all_factor_facts f fs [] = []
 all_factor_facts f fs (a ∷ as') = factor_facts f fs a ++ all_factor_facts f fs as'
 
 -- whether a fact is within the limits of normal forms
-abbrev pub is_kept : Fact → Bool
-is_kept x = is_normal (cmp_form x.cmp)
+abbrev pub is_normal_fact : Fact → Bool
+is_normal_fact x = is_normal (cmp_form x.cmp)
 
 -- the bounds of a quotient as facts
 abbrev pub limit_facts : Atom → List Limit → List Fact
@@ -199,7 +199,7 @@ abbrev pub layer_facts : Facts → Atom-F Atom Items → List Fact
 layer_facts f (Atom-F.Size s) = []
 layer_facts f (Atom-F.Var v) = []
 layer_facts f (Atom-F.Div a k) = limit_facts (Div a k) (quotient_limits a k)
-layer_facts f (Atom-F.Mul fs) = fact_if (ProductOf (Mul fs)) (kept_form (of_atom (Mul fs))) ++ all_factor_facts f fs (different fs)
+layer_facts f (Atom-F.Mul fs) = fact_if (ProductOf (Mul fs)) (where_normal (of_atom (Mul fs))) ++ all_factor_facts f fs (different fs)
 
 -- what an atom adds
 abbrev pub atom_facts : Facts → Atom → List Fact
@@ -232,7 +232,7 @@ facts_of f goal = let m = meet_form f [] goal in followed 2000 f m.atoms (declar
 
 -- the bounds of a variable with an extent
 abbrev pub bound_facts : ℕ → Items → List Fact
-bound_facts v n = fact_if (BoundOf Lower (Var v)) (kept_form (var_form v)) ++ fact_if (BoundOf Upper (Var v)) (kept_form (below_extent v n))
+bound_facts v n = fact_if (BoundOf Lower (Var v)) (where_normal (var_form v)) ++ fact_if (BoundOf Upper (Var v)) (where_normal (below_extent v n))
 
 -- whether each variable number of comparisons stays below 2^32 when it is moved up
 abbrev pub cmps_fit : ℕ → List Cmp → Bool

@@ -13,12 +13,12 @@ AllNormal [] = Unit {0}
 AllNormal (x ∷ xs) = (is_normal (cmp_form x.cmp) ≡ true) × AllNormal xs
 
 -- comparisons of normal forms
-abbrev pub AllKept : List Cmp → Type 0
-AllKept [] = Unit {0}
-AllKept (c ∷ cs) = (is_normal (cmp_form c) ≡ true) × AllKept cs
+abbrev pub CmpsNormal : List Cmp → Type 0
+CmpsNormal [] = Unit {0}
+CmpsNormal (c ∷ cs) = (is_normal (cmp_form c) ≡ true) × CmpsNormal cs
 
 -- a path whose guards compare normal forms
-abbrev pub PathKept : List PathFact → Type 0
-PathKept [] = Unit {0}
-PathKept (Bound n ∷ ps) = PathKept ps
-PathKept (Holds c ∷ ps) = AllKept c.all × PathKept ps
+abbrev pub PathNormal : List PathFact → Type 0
+PathNormal [] = Unit {0}
+PathNormal (Bound n ∷ ps) = PathNormal ps
+PathNormal (Holds c ∷ ps) = CmpsNormal c.all × PathNormal ps

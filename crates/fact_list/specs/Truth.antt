@@ -5,7 +5,7 @@ use Rattle.affine_index.specs.Normal.{is_normal}
 use Rattle.affine_index.specs.Value.{items_value}
 use Rattle.affine_index.specs.declared.form.Items.{Items}
 use Rattle.fact_list.specs.Facts.{binders, declared_facts, facts_of}
-use Rattle.fact_list.specs.Normal.{PathKept}
+use Rattle.fact_list.specs.Normal.{PathNormal}
 use Rattle.fact_list.specs.declared.facts.Facts.{Facts}
 use Rattle.fact_list.specs.declared.facts.PathFact.{PathFact}
 use Rattle.fact_list.specs.declared.facts.PathFact.TheVariants.{Bound, Holds}
@@ -47,7 +47,7 @@ HoldsWithFacts f goal = (s r : List ℕ) → AllTrue s r (declared_facts f) → 
 
 -- the declared facts hold wherever sizes, assumes and path are as the facts say
 abbrev pub DeclaredFactsHold : Type 0
-DeclaredFactsHold = (f : Facts) → PathKept f.path → (s r : List ℕ) → FactsHold f s r → AllTrue s r (declared_facts f)
+DeclaredFactsHold = (f : Facts) → PathNormal f.path → (s r : List ℕ) → FactsHold f s r → AllTrue s r (declared_facts f)
 
 -- each fact of the list of a goal in normal form holds where the declared facts do
 abbrev pub ListedFactsHold : Type 0

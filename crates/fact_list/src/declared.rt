@@ -6,7 +6,7 @@ ghost use Rattle.affine_index.specs.Condition.{cmp_form};
 ghost use Rattle.affine_index.specs.Normal.{is_normal};
 ghost use Rattle.affine_index.specs.Put.{numbers_fit, shifted};
 ghost use Rattle.fact_list.specs.declared.facts.PathFact.{PathFact};
-ghost use Rattle.fact_list.specs.Facts.{binders, bound_facts, cmps_fit, declared_facts, kept_form, moved_cmp, moved_facts, moves_fit, path_facts, size_facts, stated, stated_facts, stated_if, step_facts, step_fits};
+ghost use Rattle.fact_list.specs.Facts.{binders, bound_facts, cmps_fit, declared_facts, where_normal, moved_cmp, moved_facts, moves_fit, path_facts, size_facts, stated, stated_facts, stated_if, step_facts, step_fits};
 
 use crate::adding::push_fact;
 use crate::facts::{Facts, PathFact, SizeBounds};

@@ -6,7 +6,7 @@ ghost use Rattle.affine_index.specs.Condition.{cmp_form};
 ghost use Rattle.affine_index.specs.Normal.{is_normal};
 ghost use Rattle.affine_index.specs.Put.{numbers_fit, shifted};
 ghost use Rattle.affine_index.specs.Sum.{difference_of};
-ghost use Rattle.fact_list.specs.Facts.{NormalAtom, kept_form, kept_product, single};
+ghost use Rattle.fact_list.specs.Facts.{NormalAtom, where_normal, normal_product, single};
 
 use crate::items::formed;
 use crate::refusal::CertRefusal;
@@ -32,14 +32,14 @@ pub fn single(
 }
 
 /// A multiple of an atom and a number, if the number is within the limits.
-pub fn single_kept(
+pub fn single_normal(
     alloc: Global,
     coefficient: i64,
     atom: Atom,
     constant: i128,
 ) -> Result<Option<Aff>, CertRefusal>
     requires { IsTrue (is_normal (single coefficient atom (pos 0))) }
-    ensures { IfOk result (λ o. o ≡ kept_form (single coefficient atom constant)) }
+    ensures { IfOk result (λ o. o ≡ where_normal (single coefficient atom constant)) }
 {
     if constant.unsigned_abs() > LARGEST {
         return Ok(None);
@@ -50,7 +50,7 @@ pub fn single_kept(
 
 /// The difference of two forms.
 pub fn difference(alloc: Global, a: &Aff, b: &Aff) -> Result<Option<Aff>, CertRefusal>
-    ensures { IfOk result (λ o. o ≡ kept_form (difference_of a.now b.now)) }
+    ensures { IfOk result (λ o. o ≡ where_normal (difference_of a.now b.now)) }
 {
     match a.sub(alloc, b) {
         Ok(form) => {
@@ -66,7 +66,7 @@ pub fn difference(alloc: Global, a: &Aff, b: &Aff) -> Result<Option<Aff>, CertRe
 
 /// The product of two forms.
 pub fn product(alloc: Global, a: &Aff, b: &Aff) -> Result<Option<Aff>, CertRefusal>
-    ensures { IfOk result (λ o. o ≡ kept_product a.now b.now) }
+    ensures { IfOk result (λ o. o ≡ normal_product a.now b.now) }
 {
     match a.mul(alloc, b) {
         Ok(form) => {
@@ -103,7 +103,7 @@ pub fn copied_cmp(alloc: Global, cmp: &Cmp) -> Result<Cmp, CertRefusal>
 /// A form with its variables moved under binders.
 pub fn moved(alloc: Global, form: &Aff, by: u32) -> Result<Option<Aff>, CertRefusal>
     requires { IsTrue (numbers_fit 0 by form.now) }
-    ensures { IfOk result (λ o. o ≡ kept_form (shifted 0 by form.now)) }
+    ensures { IfOk result (λ o. o ≡ where_normal (shifted 0 by form.now)) }
 {
     match form.shift(alloc, 0, by) {
         Ok(form) => {

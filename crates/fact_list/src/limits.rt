@@ -3,11 +3,11 @@
 
 ghost use Rattle.std.specs.Prelude.{◌≡◌, ◌+◌, ◌<◌, ◌++◌, pos, IfOk, OnOk, Some};
 ghost use Rattle.std.specs.Option.{option_copied};
-ghost use Rattle.fact_list.specs.Facts.{NormalAtom, above_low, above_quotient, below_high, below_next_quotient, binders, extent_at, kept_form, limit_if, limits_of, quotient_limits, size_limits, var_limits};
+ghost use Rattle.fact_list.specs.Facts.{NormalAtom, above_low, above_quotient, below_high, below_next_quotient, binders, extent_at, where_normal, limit_if, limits_of, quotient_limits, size_limits, var_limits};
 ghost use Rattle.affine_index.specs.declared.form.Atom.TheVariants.{Div};
 
 use crate::facts::{Facts, PathFact, SizeBounds};
-use crate::forms::{difference, single, single_kept};
+use crate::forms::{difference, single, single_normal};
 use crate::items::formed;
 use crate::refusal::CertRefusal;
 use crate::role::Side;
@@ -64,16 +64,16 @@ fn push_limit(limits: &mut Items<Limit>, side: Side, form: Option<Aff>) -> Resul
 
 /// A size less its lower bound.
 pub fn above_low(alloc: Global, size: u32, low: u64) -> Result<Option<Aff>, CertRefusal>
-    ensures { IfOk result (λ form. form ≡ kept_form (above_low size low)) }
+    ensures { IfOk result (λ form. form ≡ where_normal (above_low size low)) }
 {
-    single_kept(alloc, 1, Atom::Size(size), -i128::from(low))
+    single_normal(alloc, 1, Atom::Size(size), -i128::from(low))
 }
 
 /// The upper bound of a size less it.
 pub fn below_high(alloc: Global, size: u32, high: u64) -> Result<Option<Aff>, CertRefusal>
-    ensures { IfOk result (λ form. form ≡ kept_form (below_high size high)) }
+    ensures { IfOk result (λ form. form ≡ where_normal (below_high size high)) }
 {
-    single_kept(alloc, -1, Atom::Size(size), i128::from(high))
+    single_normal(alloc, -1, Atom::Size(size), i128::from(high))
 }
 
 fn size_limits(alloc: Global, size: u32, bounds: &SizeBounds) -> Result<Items<Limit>, CertRefusal>
@@ -124,7 +124,7 @@ fn above_quotient(
     divisor: u32,
 ) -> Result<Option<Aff>, CertRefusal>
     requires { NormalAtom (Div dividend.now divisor) }
-    ensures { IfOk result (λ form. form ≡ kept_form (above_quotient dividend.now divisor)) }
+    ensures { IfOk result (λ form. form ≡ where_normal (above_quotient dividend.now divisor)) }
 {
     let whole = formed(alloc, dividend)?;
     let times = quotient_times(alloc, dividend, divisor, 0)?;
@@ -138,7 +138,7 @@ fn below_next_quotient(
     divisor: u32,
 ) -> Result<Option<Aff>, CertRefusal>
     requires { NormalAtom (Div dividend.now divisor) }
-    ensures { IfOk result (λ form. form ≡ kept_form (below_next_quotient dividend.now divisor)) }
+    ensures { IfOk result (λ form. form ≡ where_normal (below_next_quotient dividend.now divisor)) }
 {
     let whole = formed(alloc, dividend)?;
     let next = quotient_times(alloc, dividend, divisor, divisor - 1)?;

@@ -2,7 +2,7 @@
 #![tactic(auto, using(crate::proofs::ToldLaws::told_laws))]
 
 ghost use Rattle.std.specs.Prelude.{◌∷◌, []};
-ghost use Rattle.fact_list.specs.Normal.{AllKept, AllNormal, PathKept};
+ghost use Rattle.fact_list.specs.Normal.{CmpsNormal, AllNormal, PathNormal};
 
 use crate::facts::PathFact;
 use crate::forms::form_of;
@@ -19,7 +19,7 @@ pub fn told(facts: &[Fact])
 }
 
 fn told_cmps(cmps: &[Cmp])
-    ensures { AllKept cmps.now }
+    ensures { CmpsNormal cmps.now }
 {
     for cmp in cmps {
         let _ = form_of(cmp);
@@ -27,7 +27,7 @@ fn told_cmps(cmps: &[Cmp])
 }
 
 fn told_step(fact: &PathFact)
-    ensures { PathKept (fact.now ∷ []) }
+    ensures { PathNormal (fact.now ∷ []) }
 {
     match fact {
         PathFact::Bound(_) => {}
@@ -37,7 +37,7 @@ fn told_step(fact: &PathFact)
 
 /// The guards of a path compare normal forms.
 pub fn told_path(path: &[PathFact])
-    ensures { PathKept path.now }
+    ensures { PathNormal path.now }
 {
     for fact in path {
         told_step(fact);

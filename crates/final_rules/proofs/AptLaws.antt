@@ -15,7 +15,7 @@ use Rattle.affine_index.specs.Printed.{WithinMaxima}
 use Rattle.affine_index.specs.Product.{product_of}
 use Rattle.affine_index.specs.Sum.{difference_of, sum_of}
 use Rattle.affine_index.specs.Value.{items_value}
-use Rattle.fact_list.specs.Normal.{AllKept}
+use Rattle.fact_list.specs.Normal.{CmpsNormal}
 use Rattle.term_tree.specs.declared.term.Term.{Term, Lit, TVar, WordOf}
 use Rattle.term_tree.specs.Syntax.{index, gen, sum, guard, let_in, add, sub, mul, concat, flatten, split, transpose, trunc_l, trunc_r, pad_l, pad_r}
 use Rattle.term_tree.specs.Goals.{extents_or_none, rest_after, term_goals}
@@ -55,7 +55,7 @@ no_extents-nil : (ns : Extents) → no_extents ns ≡ true → ns ≡ []
 no_extents-nil [] h = refl
 no_extents-nil (n ∷ ns) h = absurd (cc)
 
-each-kept : (cs : List Cmp) → each_cmp is_normal cs ≡ true → AllKept cs
+each-kept : (cs : List Cmp) → each_cmp is_normal cs ≡ true → CmpsNormal cs
 each-kept [] h = tt
 each-kept (c ∷ cs) h = let p = and_parts (is_normal (cmp_form c)) (each_cmp is_normal cs) h in (p.0, each-kept cs p.1)
 

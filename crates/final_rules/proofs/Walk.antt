@@ -31,8 +31,8 @@ use Rattle.term_tree.specs.Shape.{Extents}
 use Rattle.fact_list.specs.declared.facts.PathFact.{PathFact}
 use Rattle.fact_list.specs.Facts.{binders}
 use Rattle.fact_list.specs.Truth.{PathHolds}
-use Rattle.fact_list.specs.Normal.{AllKept}
-use Rattle.fact_list.specs.Normal.{PathKept}
+use Rattle.fact_list.specs.Normal.{CmpsNormal}
+use Rattle.fact_list.specs.Normal.{PathNormal}
 use Rattle.fact_list.specs.declared.facts.PathFact.TheVariants.{Bound, Holds}
 use Rattle.index_trees.specs.Value.{AreTurns}
 use Rattle.final_rules.proofs.PlaceValues.{InRange, Counts, length-value, place-value}
@@ -76,12 +76,12 @@ binders-holds [] c = refl
 binders-holds (Bound m ∷ ps) c = ap suc (binders-holds ps c)
 binders-holds (Holds d ∷ ps) c = binders-holds ps c
 
-kept-bound : (ps : List PathFact) (n : Items) → PathKept ps → PathKept (ps ++ Bound n ∷ [])
+kept-bound : (ps : List PathFact) (n : Items) → PathNormal ps → PathNormal (ps ++ Bound n ∷ [])
 kept-bound [] n h = tt
 kept-bound (Bound m ∷ ps) n h = kept-bound ps n h
 kept-bound (Holds c ∷ ps) n h = (h.0, kept-bound ps n h.1)
 
-kept-holds : (ps : List PathFact) (c : Cond) → AllKept c.all → PathKept ps → PathKept (ps ++ Holds c ∷ [])
+kept-holds : (ps : List PathFact) (c : Cond) → CmpsNormal c.all → PathNormal ps → PathNormal (ps ++ Holds c ∷ [])
 kept-holds [] c k h = (k, tt)
 kept-holds (Bound m ∷ ps) c k h = kept-holds ps c k h
 kept-holds (Holds d ∷ ps) c k h = (h.0, kept-holds ps c k h.1)
@@ -147,7 +147,7 @@ module _ (s maxima : List ℕ) where
 
   -- a claim is a form within the limits that holds wherever its path does
   abbrev pub ClaimHolds : Claim → Type 0
-  ClaimHolds c = (x : Items) × (c.form ≡ Ok x) × ((y : List ℕ) → PathKept c.path → PathHolds s y c.path → pos 0 ≤ℤ items_value s y x)
+  ClaimHolds c = (x : Items) × (c.form ≡ Ok x) × ((y : List ℕ) → PathNormal c.path → PathHolds s y c.path → pos 0 ≤ℤ items_value s y x)
 
   -- a printed form is within the limits, and exact wherever the variables in scope are within their greatest values
   abbrev pub PrintedHolds : Printed → Type 0
@@ -155,13 +155,13 @@ module _ (s maxima : List ℕ) where
       (x : Items) × (i.form ≡ Ok x) × ((r y : List ℕ) → AreTurns r y → WithinMaxima y (greatest maxima i.scope) → length i.scope ≡ length r → Exactly s x r y)
 
   -- what a claim says of the form that it is taken to
-  claim_holds : (c : Claim) (raw : Items) → ((x : Items) → c.form ≡ Ok x → raw ≡ x) → ClaimHolds c → (y : List ℕ) → PathKept c.path → PathHolds s y c.path → pos 0 ≤ℤ items_value s y raw
+  claim_holds : (c : Claim) (raw : Items) → ((x : Items) → c.form ≡ Ok x → raw ≡ x) → ClaimHolds c → (y : List ℕ) → PathNormal c.path → PathHolds s y c.path → pos 0 ≤ℤ items_value s y raw
   claim_holds c raw same f y k h = subst (λ z. pos 0 ≤ℤ items_value s y z) (sym (same f.0 f.1)) (f.2 y k h)
 
   -- a place is reached
   pub record Here (p : Place) (r y : List ℕ) : Type 0 where
     pub holds : PathHolds s y p.spot.path
-    pub kept : PathKept p.spot.path
+    pub kept : PathNormal p.spot.path
     pub closed : PathClosed p.spot.path
     pub turns : AreTurns r y
     pub depth : length r ≡ binders p.spot.path
@@ -191,7 +191,7 @@ module _ (s maxima : List ℕ) where
   turn-here : (p : Place) (q : Place) (n : Items) (r y : List ℕ) (i : ℕ) → q.spot.path ≡ p.spot.path ++ Bound n ∷ [] → SizeForm n → i < extent n s → Here p r y → Here q (r ++ i ∷ []) (i ∷ y)
   turn-here p q n r y i e f l h = record {
     holds = subst (PathHolds s (i ∷ y)) (sym e) (path-turn p.spot.path n i y h.closed h.holds (subst (λ z. pos (suc i) ≤ℤ z) (sym (f.0.0 (i ∷ y))) (count-below i (items_value s [] n) l)));
-    kept = subst PathKept (sym e) (kept-bound p.spot.path n h.kept);
+    kept = subst PathNormal (sym e) (kept-bound p.spot.path n h.kept);
     closed = subst PathClosed (sym e) (closed-bound p.spot.path n f.0.0 h.closed);
     turns = turned;
     depth = length-append r (i ∷ []) ∙ (omega (arith, h.depth, binders-bound p.spot.path n)) ∙ ap binders (sym e);
@@ -209,7 +209,7 @@ module _ (s maxima : List ℕ) where
       more zero g = (omega (arith, l, f.1), f.2)
       more (suc k) g = h.within k (omega (arith, g))
 
-  guard-here : (p : Place) (c : Cond) (r y : List ℕ) → AllKept c.all → all_hold s y c.all ≡ true → Here p r y → Here (in_guard c p) r y
+  guard-here : (p : Place) (c : Cond) (r y : List ℕ) → CmpsNormal c.all → all_hold s y c.all ≡ true → Here p r y → Here (in_guard c p) r y
   guard-here p c r y k l h = record {
     holds = path-guard p.spot.path c y h.holds l;
     kept = kept-holds p.spot.path c k h.kept;
@@ -223,7 +223,7 @@ module _ (s maxima : List ℕ) where
   same-here : (p q : Place) (r y : List ℕ) → q.spot.path ≡ p.spot.path → Here p r y → Here q r y
   same-here p q r y e h = record {
     holds = subst (PathHolds s y) (sym e) h.holds;
-    kept = subst PathKept (sym e) h.kept;
+    kept = subst PathNormal (sym e) h.kept;
     closed = subst PathClosed (sym e) h.closed;
     turns = h.turns;
     depth = h.depth ∙ ap binders (sym e);
@@ -261,7 +261,7 @@ module _ (s maxima : List ℕ) where
   in-count (pos i) (negsuc n) h g = absurd (omega (arith, ints, g))
   in-count (negsuc i) n h g = absurd (omega (arith, ints, h))
 
-  in_range : (path : List PathFact) (xs : List Items) (ns : Extents) (y : List ℕ) → length xs ≡ length ns → Every Closed ns → Every ClaimHolds (index_claims path xs ns) → PathKept path → PathHolds s y path → InRange s xs ns y
+  in_range : (path : List PathFact) (xs : List Items) (ns : Extents) (y : List ℕ) → length xs ≡ length ns → Every Closed ns → Every ClaimHolds (index_claims path xs ns) → PathNormal path → PathHolds s y path → InRange s xs ns y
   in_range path [] [] y e c f k h = tt
   in_range path [] (n ∷ ns) y e c f k h = absurd (omega (arith, e))
   in_range path (x ∷ xs) [] y e c f k h = absurd (omega (arith, e))
@@ -286,7 +286,7 @@ module _ (s maxima : List ℕ) where
   WordApt (WordOf x) p = Unit {0}
   WordApt (TVar q) p = ReadAptIf (read_under (TVar q) []) 0 p
   WordApt (index e x) p = ReadAptIf (read_under (index e x) []) 0 p
-  WordApt (guard c e) p = AllKept c.all × WordApt e (in_guard c p)
+  WordApt (guard c e) p = CmpsNormal c.all × WordApt e (in_guard c p)
   WordApt (add a b) p = WordApt a p × WordApt b p
   WordApt (sub a b) p = WordApt a p × WordApt b p
   WordApt (mul a b) p = WordApt a p × WordApt b p
@@ -384,11 +384,11 @@ module _ (s maxima : List ℕ) where
       minus a b = omega (arith, ints)
 
   -- what a truncation claims of the first of these indices
-  drop-holds : (path : List PathFact) (y : List ℕ) (ls : Limited (List Items)) (x : Items) (xs : List Items) (f : Items → Items) → Tracks ls (x ∷ xs) → ClaimHolds (drop_claim path ls f) → PathKept path → PathHolds s y path → NonNeg y (f x)
+  drop-holds : (path : List PathFact) (y : List ℕ) (ls : Limited (List Items)) (x : Items) (xs : List Items) (f : Items → Items) → Tracks ls (x ∷ xs) → ClaimHolds (drop_claim path ls f) → PathNormal path → PathHolds s y path → NonNeg y (f x)
   drop-holds path y ls x xs f t g k h =
       claim_holds (drop_claim path ls f) (f x) (λ v e. let q = first_ok ls (of_first_index f) v e in limited_is (f x) v (ap (of_first_index f) (t q.0 q.1) ∙ q.2)) g y k h
 
-  pub none_dropped : (path : List PathFact) (y : List ℕ) → PathKept path → PathHolds s y path → (fs : List Around) (ls : Limited (List Items)) (xs : List Items) → Tracks ls xs → Ready fs (length xs) → Every (NonNeg y) xs
+  pub none_dropped : (path : List PathFact) (y : List ℕ) → PathNormal path → PathHolds s y path → (fs : List Around) (ls : Limited (List Items)) (xs : List Items) → Tracks ls xs → Ready fs (length xs) → Every (NonNeg y) xs
       → Every ClaimHolds (drops path fs ls) → NoneDropped s y (map (frame_of (binders path)) fs) xs
   none_dropped path y k h [] ls xs t w n g = tt
   none_dropped path y k h (f ∷ fs) ls xs t w n g =
@@ -462,7 +462,7 @@ module _ (s maxima : List ℕ) where
   Apt (index e x) p k = Every SizeForm (shape_at (index e x) p) × ReadAptIf (read_under (index e x) []) (length (shape_at (index e x) p)) p × (k ≡ length (shape_at (index e x) p))
   Apt (gen n e) p k = SizeForm n × ((j : ℕ) × (k ≡ suc j) × Apt e (in_gen n p) j)
   Apt (sum n e) p k = SizeForm n × Apt e (in_sum n p) k
-  Apt (guard c e) p k = AllKept c.all × Apt e (in_guard c p) k
+  Apt (guard c e) p k = CmpsNormal c.all × Apt e (in_guard c p) k
   Apt (let_in a b) p k = ((j : ℕ) × Apt a (in_definition a p) j) × Apt b (in_body a p) k × Counted p.free × Every Counted (shape_at a p)
   Apt (add a b) p k = either (adds_words a b (shapes p)) ((k ≡ 0) × WordApt (add a b) p) (Apt a p k × Apt b p k)
   Apt (sub a b) p k = (k ≡ 0) × WordApt (sub a b) p

@@ -9,7 +9,7 @@ use Rattle.term_tree.specs.Shape.{Extents}
 use Rattle.fact_list.specs.declared.facts.Facts.{Facts}
 use Rattle.fact_list.specs.declared.facts.PathFact.{PathFact}
 use Rattle.fact_list.specs.declared.facts.PathFact.TheVariants.{Bound, Holds}
-use Rattle.fact_list.specs.Facts.{binders, kept_form}
+use Rattle.fact_list.specs.Facts.{binders, where_normal}
 use Rattle.reindexer.specs.Limited.{Limited, and_then, limited}
 use Rattle.reindexer.specs.Places.{limited_frame}
 use Rattle.final_rules.specs.declared.goal.Goal.{Goal}
@@ -122,7 +122,7 @@ claims_at e p = claims_of e p.spot (shapes p)
 
 -- the form of a goal, if it is one of normal forms within the limits
 abbrev pub kept_goal : Limited Items → Option Items
-kept_goal (Ok x) = kept_form x
+kept_goal (Ok x) = where_normal x
 kept_goal (Err e) = None
 
 -- the goal of a claim, with these facts along its path

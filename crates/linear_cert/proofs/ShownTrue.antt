@@ -8,7 +8,7 @@ use Rattle.affine_index.specs.declared.form.Items.{Items}
 use Rattle.fact_list.proofs.FactsTrue.{AllGood, facts-good, good-true}
 use Rattle.fact_list.proofs.PlaceTrue.{declared-true}
 use Rattle.fact_list.specs.Facts.{facts_of}
-use Rattle.fact_list.specs.Normal.{AllNormal, PathKept}
+use Rattle.fact_list.specs.Normal.{AllNormal, PathNormal}
 use Rattle.fact_list.specs.Truth.{AllTrue, HoldsAtPlace, HoldsWithFacts}
 use Rattle.fact_list.specs.declared.facts.Facts.{Facts}
 use Rattle.fact_list.specs.declared.role.Fact.{Fact}
@@ -38,5 +38,5 @@ shown-true f goal Default n u s r h =
 shown-true f goal (Given ls) n u s r h = lines-true s r (facts_of f goal) goal (good-true s r (facts_of f goal) (facts-good s r f h goal n)) ls u
 
 -- it holds wherever sizes, assumes and path are as the facts say
-pub shown-at-place : (f : Facts) (goal : Items) (lines : Lines) → is_normal goal ≡ true → PathKept f.path → is_shown f goal lines ≡ true → HoldsAtPlace f goal
+pub shown-at-place : (f : Facts) (goal : Items) (lines : Lines) → is_normal goal ≡ true → PathNormal f.path → is_shown f goal lines ≡ true → HoldsAtPlace f goal
 shown-at-place f goal lines n k u s r h = shown-true f goal lines n u s r (declared-true s r f k h)

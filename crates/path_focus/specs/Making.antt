@@ -5,7 +5,7 @@ use Rattle.affine_index.specs.Sum.{difference_of, scaled, sum_of}
 use Rattle.affine_index.specs.declared.form.Items.{Items}
 use Rattle.binders.specs.Maps.{mapped}
 use Rattle.binders.specs.PlainMaps.{put_index_map}
-use Rattle.fact_list.specs.Facts.{kept_form}
+use Rattle.fact_list.specs.Facts.{where_normal}
 use Rattle.fact_list.specs.declared.facts.Facts.{Facts}
 use Rattle.term_tree.specs.Shape.{tiles}
 use Rattle.term_tree.specs.declared.term.Term.{Term}
@@ -33,7 +33,7 @@ tile_rest k n = difference_of (scaled (pos k) (tiles k n)) n
 
 -- a number is at least 0 by these facts
 abbrev pub owed : Facts → Items → Condition
-owed f x = record { goal = kept_form x; facts = f }
+owed f x = record { goal = where_normal x; facts = f }
 
 -- 0 <= x < n
 abbrev pub one_of_rows : Facts → Items → Items → List Condition

@@ -3,7 +3,7 @@
 ghost use Rattle.std.specs.Prelude.{◌≡◌, ◌≤◌, [], ◌∷◌, IfOk};
 ghost use Rattle.binders.specs.Answers.{IsWithinLimits, IsWithinReach};
 ghost use Rattle.binders.specs.PlainMaps.{put_index_reach};
-ghost use Rattle.fact_list.specs.Facts.{kept_form};
+ghost use Rattle.fact_list.specs.Facts.{where_normal};
 ghost use Rattle.path_focus.specs.Making.{one_of_rows, owed, rest_below, with_index};
 ghost use Rattle.path_focus.specs.Outcome.{IsDraft};
 ghost use Rattle.term_tree.specs.Counts.{node_depth};
@@ -60,7 +60,7 @@ pub fn with_index(alloc: Global, x: Aff, body: &Term) -> Result<Draft, CertRefus
 
 /// n - 1 - x, where its form is within the limits.
 fn rest_below(alloc: Global, n: &Aff, x: &Aff) -> Result<Option<Aff>, CertRefusal>
-    ensures { IfOk result (λ o. o ≡ kept_form (rest_below n.now x.now)) }
+    ensures { IfOk result (λ o. o ≡ where_normal (rest_below n.now x.now)) }
 {
     let one = number(alloc, 1)?;
     let taken = sum(alloc, copied(alloc, x)?, one)?;
@@ -80,7 +80,7 @@ fn rest_below(alloc: Global, n: &Aff, x: &Aff) -> Result<Option<Aff>, CertRefusa
 
 /// A copy of a form, which is within the limits.
 fn kept(alloc: Global, x: &Aff) -> Result<Option<Aff>, CertRefusal>
-    ensures { IfOk result (λ o. o ≡ kept_form x.now) }
+    ensures { IfOk result (λ o. o ≡ where_normal x.now) }
 {
     x.told();
     match x.copy(alloc) {
