@@ -1,6 +1,6 @@
 use affine_index::Rel;
 use linear_cert::Lines;
-use schedule_script::{ArgTree, IxTree, Script, ScriptFault, read_script};
+use schedule_script::{ArgTree, Comparison, IxTree, Script, ScriptFault, read_script};
 use script_printer::print_script;
 use std::alloc::Global;
 use std::process::Abort;
@@ -108,6 +108,42 @@ fn a_tree_is_at_most_1000_deep(rt: HostRuntime) -> Result<(), Fail> {
     Ok(())
 }
 
+/// `{3: 1, 0: -2147483648}`, the default lines, and no lines.
+fn are_certificates(lines: &[Lines]) -> bool {
+    let [Lines::Given(first), Lines::Default, Lines::Given(last)] = lines else {
+        return false;
+    };
+    let [_, second] = first.as_slice() else {
+        return false;
+    };
+    last.is_empty() && second.fact == 0 && second.multiplier == -2_147_483_648
+}
+
+/// `N - 2*i0 - -j/3 >= 0 and x%5 == (1)`.
+fn is_condition(all: &[Comparison]) -> bool {
+    let [below, equal] = all else {
+        return false;
+    };
+    let IxTree::Sub(front, back) = below.left.get() else {
+        return false;
+    };
+    let IxTree::Div(minus, 3) = back.get() else {
+        return false;
+    };
+    matches!((below.rel, equal.rel), (Rel::Ge, Rel::Eq))
+        && matches!(equal.left.get(), IxTree::Rem(_, 5))
+        && matches!(front.get(), IxTree::Sub(_, _))
+        && matches!(minus.get(), IxTree::Neg(_))
+}
+
+/// `4`, and that condition.
+fn are_arguments(args: &[ArgTree]) -> bool {
+    let [ArgTree::Ix(four), ArgTree::Cond(all)] = args else {
+        return false;
+    };
+    matches!(four.get(), IxTree::Num(4)) && is_condition(all.as_slice())
+}
+
 #[test]
 fn a_script_is_read(rt: HostRuntime) {
     let text =
@@ -116,53 +152,19 @@ fn a_script_is_read(rt: HostRuntime) {
         assert!(rt; false);
         return;
     };
-    assert_eq!(rt;
-        (
-            script.steps.len(),
-            script.finals.len(),
-            script.parallel.len()
-        ),
-        (1, 1, 0)
-    );
-    assert_eq!(rt; script.finals.as_slice()[0].goal, 9);
-    let step = &script.steps.as_slice()[0];
+    let ([step], [last]) = (script.steps.as_slice(), script.finals.as_slice()) else {
+        assert!(rt; false);
+        return;
+    };
     assert_eq!(rt;
         (step.path.output, step.path.steps.as_slice()),
         (0, [12].as_slice())
     );
     assert_eq!(rt; step.rule.as_str(), "cut");
-    let lines = step.lines.as_slice();
-    let [Lines::Given(first), Lines::Default, Lines::Given(last)] = lines else {
-        assert!(rt; false);
-        return;
-    };
-    assert_eq!(rt; last.len(), 0);
-    let [_, second] = first.as_slice() else {
-        assert!(rt; false);
-        return;
-    };
-    assert_eq!(rt; (second.fact, second.multiplier), (0, -2_147_483_648));
-    let [ArgTree::Ix(four), ArgTree::Cond(all)] = step.args.as_slice() else {
-        assert!(rt; false);
-        return;
-    };
-    assert!(rt; matches!(four.get(), IxTree::Num(4)));
-    let [below, equal] = all.as_slice() else {
-        assert!(rt; false);
-        return;
-    };
-    assert!(rt; matches!((below.rel, equal.rel), (Rel::Ge, Rel::Eq)));
-    assert!(rt; matches!(equal.left.get(), IxTree::Rem(_, 5)));
-    let IxTree::Sub(front, back) = below.left.get() else {
-        assert!(rt; false);
-        return;
-    };
-    assert!(rt; matches!(front.get(), IxTree::Sub(_, _)));
-    let IxTree::Div(minus, 3) = back.get() else {
-        assert!(rt; false);
-        return;
-    };
-    assert!(rt; matches!(minus.get(), IxTree::Neg(_)));
+    assert!(rt; are_arguments(step.args.as_slice()));
+    assert!(rt; are_certificates(step.lines.as_slice()));
+    assert!(rt; last.goal == 9 && matches!(last.lines, Lines::Default));
+    assert!(rt; script.parallel.is_empty());
 }
 
 /// Whether a text, read and printed, is this one, and the printed text, read and printed, too.
