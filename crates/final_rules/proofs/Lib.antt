@@ -18,3 +18,5 @@ pub mod OppositeLaws
 pub mod OutsideLaws
 pub mod GenForms
 pub mod MarkSteps
+pub mod PrintingLaws
+pub mod WordForms

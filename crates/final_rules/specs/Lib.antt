@@ -5,6 +5,7 @@ pub mod Met
 pub mod Owed
 pub mod Places
 pub mod Printed
+pub mod Printing
 pub mod Reads
 pub mod Rules
 pub mod Worded

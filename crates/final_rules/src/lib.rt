@@ -10,6 +10,7 @@ pub mod laws;
 pub mod lines;
 pub mod lowerable;
 pub mod marks;
+pub mod printing;
 pub mod read;
 pub mod spot;
 pub mod steps;
