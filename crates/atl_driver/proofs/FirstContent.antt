@@ -14,7 +14,8 @@ use Rattle.atl_driver.specs.declared.compile.CompileRefusal.TheVariants.{Refused
 use Rattle.atl_driver.specs.declared.fault.Fault.{Fault}
 
 -- it is within the limit of a file
-pub first_within : (told : List ℕ → Option (List ℕ)) (names contents : List (List ℕ)) → EachMayBe told names contents → length (first_content contents) ≤ 1048576
+pub first_within : (told : List ℕ → Option (List ℕ)) (names contents : List (List ℕ)) → EachMayBe told names contents
+    → length (first_content contents) ≤ 1048576
 first_within told [] [] h = omega arith
 first_within told [] (content ∷ contents) h = absurd h
 first_within told (name ∷ names) [] h = absurd h
@@ -22,7 +23,8 @@ first_within told (name ∷ names) (content ∷ contents) h = h.0.within
 
 module _ {A : Type 0} where
   -- what the first content comes to is what the command comes to
-  pub decided_first : (v : Verb) (z : List ℕ) (zs : List (List ℕ)) (r : Result (Vec ℕ A) CompileRefusal) → z ≡ first_content zs → Answers (compiled z) r → Answers (decided v zs) r
+  pub decided_first : (v : Verb) (z : List ℕ) (zs : List (List ℕ)) (r : Result (Vec ℕ A) CompileRefusal) → z ≡ first_content zs → Answers (compiled z) r
+      → Answers (decided v zs) r
   unfolding decided
   decided_first Compile z zs r e h = subst (λ (y : List ℕ). Answers (compiled y) r) e h
 

@@ -13,7 +13,8 @@ use Rattle.atl_driver.specs.declared.refusal.Refusal.{Refusal}
 use Rattle.atl_driver.specs.declared.refusal.Refusal.TheVariants.{Refused, Usage, ReadFault, TooLong, Memory}
 
 -- one more read
-pub EachMayBe-more : (told : List ℕ → Option (List ℕ)) (names contents : List (List ℕ)) (name content : List ℕ) → EachMayBe told names contents → MayBe (told name) content → EachMayBe told (names ++ name ∷ []) (contents ++ content ∷ [])
+pub EachMayBe-more : (told : List ℕ → Option (List ℕ)) (names contents : List (List ℕ)) (name content : List ℕ) → EachMayBe told names contents
+    → MayBe (told name) content → EachMayBe told (names ++ name ∷ []) (contents ++ content ∷ [])
 EachMayBe-more told [] [] name content each one = (one, tt)
 EachMayBe-more told [] (c ∷ contents) name content each one = absurd each
 EachMayBe-more told (n ∷ names) [] name content each one = absurd each
@@ -21,7 +22,8 @@ EachMayBe-more told (n ∷ names) (c ∷ contents) name content each one = (each
 
 module _ {A : Type 0} where
   -- the texts of words, around the word at an index
-  pub texts_around : (words : List (String A)) (i : ℕ) (word : String A) → i < length words → word ≡ slice_index_or words i word → texts words ≡ texts (take i words) ++ string_bytes word ∷ texts (drop (i + 1) words)
+  pub texts_around : (words : List (String A)) (i : ℕ) (word : String A) → i < length words → word ≡ slice_index_or words i word
+      → texts words ≡ texts (take i words) ++ string_bytes word ∷ texts (drop (i + 1) words)
   texts_around words i word lt at =
       let rest : drop i words ≡ word ∷ drop (i + 1) words = drop_more words i word lt ∙ ap (λ (w : String A). w ∷ drop (i + 1) words) (sym at) in
       ap (λ (ws : List (String A)). texts ws) (sym (take-append-drop i words) ∙ ap (λ (ws : List (String A)). take i words ++ ws) rest)
@@ -29,15 +31,21 @@ module _ {A : Type 0} where
 
 module _ {A B : Type 0} where
   -- one more read, by the index of the word
-  pub each_more : (told : List ℕ → Option (List ℕ)) (words : List (String A)) (i : ℕ) (word : String A) (contents next : List (Vec ℕ B)) (content : Vec ℕ B) → i < length words → word ≡ slice_index_or words i word → next ≡ contents ++ content ∷ [] → EachMayBe told (texts (take i words)) (map (λ (c : Vec ℕ B). c.items) contents) → MayBe (told (string_bytes word)) content.items → EachMayBe told (texts (take (i + 1) words)) (map (λ (c : Vec ℕ B). c.items) next)
+  pub each_more : (told : List ℕ → Option (List ℕ)) (words : List (String A)) (i : ℕ) (word : String A) (contents next : List (Vec ℕ B)) (content : Vec ℕ B)
+      → i < length words → word ≡ slice_index_or words i word → next ≡ contents ++ content ∷ []
+      → EachMayBe told (texts (take i words)) (map (λ (c : Vec ℕ B). c.items) contents) → MayBe (told (string_bytes word)) content.items
+      → EachMayBe told (texts (take (i + 1) words)) (map (λ (c : Vec ℕ B). c.items) next)
   each_more told words i word contents next content lt at pushed each one =
       let more : take (i + 1) words ≡ take i words ++ word ∷ [] = take_more words i word lt ∙ ap (λ (w : String A). take i words ++ w ∷ []) (sym at) in
-      let names_more : texts (take (i + 1) words) ≡ texts (take i words) ++ string_bytes word ∷ [] = ap (λ (ws : List (String A)). texts ws) more ∙ map-append (λ (w : String A). string_bytes w) (take i words) (word ∷ []) in
-      let contents_more : map (λ (c : Vec ℕ B). c.items) next ≡ map (λ (c : Vec ℕ B). c.items) contents ++ content.items ∷ [] = ap (λ (cs : List (Vec ℕ B)). map (λ (c : Vec ℕ B). c.items) cs) pushed ∙ map-append (λ (c : Vec ℕ B). c.items) contents (content ∷ []) in
+      let names_more : texts (take (i + 1) words) ≡ texts (take i words) ++ string_bytes word ∷ [] =
+      ap (λ (ws : List (String A)). texts ws) more ∙ map-append (λ (w : String A). string_bytes w) (take i words) (word ∷ []) in
+      let contents_more : map (λ (c : Vec ℕ B). c.items) next ≡ map (λ (c : Vec ℕ B). c.items) contents ++ content.items ∷ [] =
+      ap (λ (cs : List (Vec ℕ B)). map (λ (c : Vec ℕ B). c.items) cs) pushed ∙ map-append (λ (c : Vec ℕ B). c.items) contents (content ∷ []) in
       rw (names_more, contents_more) (EachMayBe-more told _ _ _ _ each one)
 
 -- told contents are the ones that the reads answered
-pub each_is : (told : List ℕ → Option (List ℕ)) (names contents others : List (List ℕ)) → EachIs told names contents → EachMayBe told names others → others ≡ contents
+pub each_is : (told : List ℕ → Option (List ℕ)) (names contents others : List (List ℕ)) → EachIs told names contents → EachMayBe told names others
+    → others ≡ contents
 each_is told [] [] [] is may = refl
 each_is told [] [] (d ∷ others) is may = absurd may
 each_is told [] (c ∷ contents) others is may = absurd is
@@ -49,7 +57,8 @@ each_is told (n ∷ names) (c ∷ contents) (d ∷ others) is may =
     cc
 
 -- a name among them is told, and within the limit
-pub told_among : (told : List ℕ → Option (List ℕ)) (before after : List (List ℕ)) (name : List ℕ) (contents : List (List ℕ)) → EachIs told (before ++ name ∷ after) contents → (content : List ℕ) × (told name ≡ Some content) × (length content ≤ 1048576)
+pub told_among : (told : List ℕ → Option (List ℕ)) (before after : List (List ℕ)) (name : List ℕ) (contents : List (List ℕ))
+    → EachIs told (before ++ name ∷ after) contents → (content : List ℕ) × (told name ≡ Some content) × (length content ≤ 1048576)
 told_among told [] after name [] is = absurd is
 told_among told [] after name (c ∷ contents) is = (c, is.0, is.1)
 told_among told (n ∷ before) after name [] is = absurd is
@@ -75,7 +84,9 @@ module _ {F : Type 0} (held : F → List ℕ → Option (List ℕ)) (faults take
   rose_since a b c le rose = elim rose as (λ _. Rose a c) [ inl more ↦ inl (omega arith) | inr end ↦ inr end ]
 
   -- the reads stopped at a name, whose read failed after those before it
-  pub stops_at : (old mid new : F) (names before after contents : List (List ℕ)) (name : List ℕ) (refusal : Refusal) → GoesOn held faults old mid → names ≡ before ++ name ∷ after → EachMayBe (held old) before contents → IsReadCause held faults taken mid new refusal name → StopsFor held faults taken old new refusal names
+  pub stops_at : (old mid new : F) (names before after contents : List (List ℕ)) (name : List ℕ) (refusal : Refusal) → GoesOn held faults old mid
+      → names ≡ before ++ name ∷ after → EachMayBe (held old) before contents → IsReadCause held faults taken mid new refusal name
+      → StopsFor held faults taken old new refusal names
   stops_at old mid new names before after contents name (Refused fault) on order read cause = cause
   stops_at old mid new names before after contents name Usage on order read cause = cause
   stops_at old mid new names before after contents name Memory on order read cause = tt

@@ -11,7 +11,8 @@ use Rattle.std.specs.String.{string_bytes}
 use Rattle.atl_edges.specs.Holdings.{Entry, content_of, entry_of, entries_of}
 
 -- no number of a list of smaller ones is this one
-pub is_listed_past : (numbers : List ℕ) (bound : ℕ) → ((k : ℕ) → k < length numbers → get_or numbers k 0 < bound) → list_any (λ number. number == bound) numbers ≡ false
+pub is_listed_past : (numbers : List ℕ) (bound : ℕ) → ((k : ℕ) → k < length numbers → get_or numbers k 0 < bound)
+    → list_any (λ number. number == bound) numbers ≡ false
 is_listed_past [] bound below = refl
 is_listed_past (number ∷ numbers) bound below =
     let first : number < bound = below zero (omega arith) in
@@ -38,5 +39,6 @@ module _ {A B : Type 0} where
       ∙ sym (option_map_cond (λ (entry : Entry). entry.content) test (Some (entry_of pair)) (find (λ entry. bytes_eq entry.name name) (entries_of pairs)))
 
   -- what is found of the first pair of this name is the content of the first entry
-  pub content_of_found : (found : Option (String A × Vec ℕ B)) (pairs : List (String A × Vec ℕ B)) (name : List ℕ) → found ≡ find (λ pair. bytes_eq (string_bytes pair.0) name) pairs → option_map (λ pair. pair.1.items) found ≡ content_of (entries_of pairs) name
+  pub content_of_found : (found : Option (String A × Vec ℕ B)) (pairs : List (String A × Vec ℕ B)) (name : List ℕ)
+      → found ≡ find (λ pair. bytes_eq (string_bytes pair.0) name) pairs → option_map (λ pair. pair.1.items) found ≡ content_of (entries_of pairs) name
   content_of_found found pairs name is = ap (λ (pair : Option (String A × Vec ℕ B)). option_map (λ p. p.1.items) pair) is ∙ content_of_entries pairs name

@@ -10,11 +10,15 @@ compile_all-requires g c = rw c.deref.ensures.value (first_within _ _ _ c.in-Ok.
 pub returns-in-Ok-compile_all-clause-text : goal.returns-in-Ok-compile_all-clause-text
 returns-in-Ok-compile_all-clause-text g c =
     let F = g.F.Files in
-    text_came F.held F.faults F.taken c.args.files.now c.read_all.new.files (form_of c.args.words.now) (record { verb = c.in-Some.command.verb; files = texts c.in-Some.command.files.now }) _
-    (sym c.in-Some.ensures) (rw c.deref.ensures.value c.in-Ok.ensures.contents) c.in-Ok-compile_all.text.items c.in-Ok-compile_all.ensures.answers c.in-Ok-compile_all.ensures.correct
+    text_came F.held F.faults F.taken c.args.files.now c.read_all.new.files (form_of c.args.words.now)
+    (record { verb = c.in-Some.command.verb; files = texts c.in-Some.command.files.now }) _
+    (sym c.in-Some.ensures) (rw c.deref.ensures.value c.in-Ok.ensures.contents) c.in-Ok-compile_all.text.items c.in-Ok-compile_all.ensures.answers
+    c.in-Ok-compile_all.ensures.correct
 
 pub returns-in-Err-Refused-clause-cause : goal.returns-in-Err-Refused-clause-cause
 returns-in-Err-Refused-clause-cause g c =
     let F = g.F.Files in
-    fault_came F.held F.faults F.taken c.args.files.now c.read_all.new.files (form_of c.args.words.now) (record { verb = c.in-Some.command.verb; files = texts c.in-Some.command.files.now }) _
-    (sym c.in-Some.ensures) (rw c.deref.ensures.value c.in-Ok.ensures.contents) c.in-Err-Refused.fault (rw c.in-Err-Refused.field-0-is at c.in-Err-Refused.ensures.answers) (c.compile_all.ensures.refused c.in-Err-Refused.fault (cc))
+    fault_came F.held F.faults F.taken c.args.files.now c.read_all.new.files (form_of c.args.words.now)
+    (record { verb = c.in-Some.command.verb; files = texts c.in-Some.command.files.now }) _
+    (sym c.in-Some.ensures) (rw c.deref.ensures.value c.in-Ok.ensures.contents) c.in-Err-Refused.fault
+    (rw c.in-Err-Refused.field-0-is at c.in-Err-Refused.ensures.answers) (c.compile_all.ensures.refused c.in-Err-Refused.fault (cc))

@@ -11,7 +11,8 @@ use Rattle.atl_driver.proofs.driver.atl.Goals as goal
 pub returns-in-Ok-put-clause-complete : goal.returns-in-Ok-put-clause-complete
 returns-in-Ok-put-clause-complete g c = λ command contents is told none out err.
     let F = g.F.Files in
-    let decides = came_is F.held F.faults F.taken c.args.files.now c.decide.new.files (form_of c.args.words.now) command contents is told (Ok c.in-Ok.text.items) c.in-Ok.ensures.text.came in
+    let decides = came_is F.held F.faults F.taken c.args.files.now c.decide.new.files (form_of c.args.words.now) command contents is told
+    (Ok c.in-Ok.text.items) c.in-Ok.ensures.text.came in
     inl (subst (λ (answer : Result (List ℕ) Fault). Done ≡ status_after answer) (sym decides) refl)
 
 pub returns-clause-complete : goal.returns-clause-complete
@@ -19,7 +20,8 @@ returns-clause-complete g c = λ command contents is told none out err.
     let F = g.F.Files in
     let reason = c.report.ensures.told.0 in
     let Aim : Type 0 = (c.report.result ≡ status_after (decided command.verb contents)) ⊎ (c.report.result ≡ Memory) in
-    let caused = completes F.held F.faults F.taken c.args.files.now c.decide.new.files (form_of c.args.words.now) command contents is told c.in-Err.refusal none c.in-Err.ensures.cause in
+    let caused = completes F.held F.faults F.taken c.args.files.now c.decide.new.files (form_of c.args.words.now) command contents is told c.in-Err.refusal none
+    c.in-Err.ensures.cause in
     elim c.report.ensures.told.2 as (λ _. Aim) [
       | inl whole ↦ elim c.report.ensures.told.1 as (λ _. Aim) [
         | inl same ↦ elim caused as (λ _. Aim) [

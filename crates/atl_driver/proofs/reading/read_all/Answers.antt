@@ -10,8 +10,10 @@ pub returns-in-Err-clause-cause : goal.returns-in-Err-clause-cause
 returns-in-Err-clause-cause g c =
     let F = g.F.Files in
     let order = texts_around c.args.names.now c.loop-name.name-index c.name-item.result c.loop-name-test.true c.name-item.is in
-    let cause = subst (λ (name : List ℕ). IsReadCause F.held F.faults F.taken c.loop-name.files c.read_one.new.files c.in-Err.refusal name) c.as_str.ensures.value c.in-Err.ensures.cause in
-    stops_at F.held F.faults F.taken c.args.files.now c.loop-name.files c.read_one.new.files (texts c.args.names.now) _ _ _ (string_bytes c.name-item.result) c.in-Err.refusal
+    let cause = subst (λ (name : List ℕ). IsReadCause F.held F.faults F.taken c.loop-name.files c.read_one.new.files c.in-Err.refusal name)
+    c.as_str.ensures.value c.in-Err.ensures.cause in
+    stops_at F.held F.faults F.taken c.args.files.now c.loop-name.files c.read_one.new.files (texts c.args.names.now) _ _ _
+    (string_bytes c.name-item.result) c.in-Err.refusal
     c.loop-name.invariant.1 order c.loop-name.invariant.0 cause
 
 pub loop-name-preserved : goal.loop-name-preserved
