@@ -1,0 +1,5 @@
+pub mod LimitLaws
+pub mod Versions
+pub mod FewLaws
+pub mod Bytes
+pub mod Causes
