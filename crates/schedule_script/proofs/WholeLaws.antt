@@ -1,10 +1,9 @@
 -- Bytes: what is read is in the grammar, the other way round, and where a refusal stands.
-use Rattle.std.proofs.Common.{◌≡◌, inl, inr, ℕ, zero, suc, Bool, true, false, cond, List, take, length, Result, Ok, Err, refl, sym, ap, subst, ◌∙◌}
+use Rattle.std.proofs.Common.{◌≡◌, inl, inr, Bool, true, false, List, Result, Ok, Err, refl, sym, ap, subst, ◌∙◌}
 use Rattle.std.specs.Prelude.{IfOk, IfErr, ◌≢◌}
 use Rattle.std.specs.Str.{IsUtf8, is_utf8}
-use Rattle.std.specs.Str.Lossy.{utf8_valid_len, valid_len_up_to}
-use Rattle.std.proofs.lemmas.Str.{IsUtf8-nil, IsUtf8-from_is_utf8, is_utf8-from_IsUtf8, utf8_valid_len-IsUtf8}
-use Rattle.std.proofs.Math.Seq.{take-length}
+use Rattle.std.specs.Str.Lossy.{utf8_valid_len}
+use Rattle.std.proofs.lemmas.Str.{IsUtf8-from_is_utf8, is_utf8-from_IsUtf8}
 use Rattle.text_tokens.specs.declared.kind.Language.TheVariants as language
 use Rattle.text_tokens.specs.Kinds.{Text}
 use Rattle.text_tokens.specs.Words.{Word, words_of}
@@ -17,7 +16,7 @@ use Rattle.reader_laws.specs.Grammar.{IsRefusedAt}
 use Rattle.reader_laws.proofs.Whole.{whole_read, whole_found, whole_refused}
 use Rattle.schedule_script.specs.declared.fault.ScriptFault.{ScriptFault}
 use Rattle.schedule_script.specs.declared.fault.ScriptFault.TheVariants.{ScriptSyntax, Memory}
-use Rattle.schedule_script.specs.Script.{script, IsScript, ScriptText, answered, cut_off, read_text, valid_front, read_bytes, Answers, IsRefusedText}
+use Rattle.schedule_script.specs.Script.{script, IsScript, ScriptText, answered, read_text, read_bytes, Answers, IsRefusedText}
 use Rattle.schedule_script.proofs.ScriptLaws.{script_goes_on, ends, lawful_script}
 use Rattle.schedule_script.proofs.Bytes.{by_cases}
 
@@ -32,6 +31,9 @@ fault e = Err e
 
 same_fault : (e f : ScriptFault) → fault e ≡ fault f → e ≡ f
 same_fault e f h = cc
+
+not_answer : (e : ScriptFault) (m : Script) → fault e ≡ answer m → ⊥
+not_answer e m h = absurd cc
 
 -- ---- texts
 
@@ -67,51 +69,29 @@ text_refused z e h not = text_err z (read_whole language.Script script z) e refl
 
 -- ---- bytes
 
-front_up_to : (z : Text) (n : ℕ) → IsUtf8 (take (valid_len_up_to z n) z)
-front_up_to z zero = IsUtf8-nil
-front_up_to z (suc n) = go (is_utf8 (take (suc n) z)) refl (front_up_to z n)
-  where
-    go : (b : Bool) → is_utf8 (take (suc n) z) ≡ b → IsUtf8 (take (valid_len_up_to z n) z) → IsUtf8 (take (cond b (suc n) (valid_len_up_to z n)) z)
-    go true e h = IsUtf8-from_is_utf8 (take (suc n) z) e
-    go false e h = h
-
-front_is_text : (z : Text) → IsUtf8 (valid_front z)
-unfolding utf8_valid_len
-front_is_text z = front_up_to z (length z)
-
-front_is_all : (z : Text) → is_utf8 z ≡ true → valid_front z ≡ z
-front_is_all z u = ap (λ (n : ℕ). take n z) (utf8_valid_len-IsUtf8 z (IsUtf8-from_is_utf8 z u)) ∙ take-length z
-
-cut_no : (place : ℕ) (r : Result Script ScriptFault) (m : Script) → cut_off place r ≡ Ok m → ⊥
-cut_no place (Ok n) m h = absurd cc
-cut_no place (Err e) m h = absurd cc
+no_script : (z : Text) (m : Script) → read_bytes z ≡ Ok m → is_utf8 z ≡ false → ⊥
+no_script z m h e = absurd (not_answer (ScriptSyntax (utf8_valid_len z)) m (sym (by_cases z false e) ∙ h))
 
 source_found : (z : Text) (m : Script) → read_bytes z ≡ Ok m → ScriptText z m
 source_found z m h = go (is_utf8 z) refl
   where
     go : (b : Bool) → is_utf8 z ≡ b → ScriptText z m
     go true e = (IsUtf8-from_is_utf8 z e, text_found z m (sym (by_cases z true e) ∙ h))
-    go false e = absurd (cut_no (utf8_valid_len z) (read_text (valid_front z)) m (sym (by_cases z false e) ∙ h))
+    go false e = absurd (no_script z m h e)
 
 source_only : (z : Text) (m : Script) → ScriptText z m → read_bytes z ≡ Ok m
 source_only z m is = by_cases z true (is_utf8-from_IsUtf8 z is.0) ∙ text_only z m is.1
 
-cause_leaves : (z y : Text) (e : ScriptFault) → y ≡ valid_front z → IsCause y e → IsRefusedText z e
-cause_leaves z y (ScriptSyntax place) same is = inl (subst (λ (t : Text). (f : Fault) × IsRefusedAt language.Script IsScript t f place) same is)
-cause_leaves z y Memory same is = absurd is
+cause_leaves : (z : Text) (e : ScriptFault) → IsUtf8 z → IsCause z e → IsRefusedText z e
+cause_leaves z (ScriptSyntax place) u is = inr (u, is)
+cause_leaves z Memory u is = absurd is
 
-cut_refused : (z : Text) (r : Result Script ScriptFault) (e : ScriptFault) → is_utf8 z ≡ false → read_text (valid_front z) ≡ r → IsUtf8 (valid_front z)
-    → cut_off (utf8_valid_len z) r ≡ Err e → e ≢ Memory → IsRefusedText z e
-cut_refused z (Ok m) e u is front h not =
-    subst (IsRefusedText z) (same_fault (ScriptSyntax (utf8_valid_len z)) e h) (inr (u, refl, (m, (front, text_found (valid_front z) m is))))
-cut_refused z (Err f) e u is front h not = cause_leaves z (valid_front z) e refl (text_refused (valid_front z) e (is ∙ h) not)
-
-source_refused : (z : Text) (e : ScriptFault) → IsUtf8 (valid_front z) → read_bytes z ≡ Err e → e ≢ Memory → IsRefusedText z e
-source_refused z e front h not = go (is_utf8 z) refl
+source_refused : (z : Text) (e : ScriptFault) → read_bytes z ≡ Err e → e ≢ Memory → IsRefusedText z e
+source_refused z e h not = go (is_utf8 z) refl
   where
     go : (b : Bool) → is_utf8 z ≡ b → IsRefusedText z e
-    go true u = cause_leaves z z e (sym (front_is_all z u)) (text_refused z e (sym (by_cases z true u) ∙ h) not)
-    go false u = cut_refused z (read_text (valid_front z)) e u refl front (sym (by_cases z false u) ∙ h) not
+    go true u = cause_leaves z e (IsUtf8-from_is_utf8 z u) (text_refused z e (sym (by_cases z true u) ∙ h) not)
+    go false u = subst (IsRefusedText z) (same_fault (ScriptSyntax (utf8_valid_len z)) e (sym (by_cases z false u) ∙ h)) (inl (u, refl))
 
 -- ---- answers
 
@@ -126,7 +106,7 @@ pub refused : (z : Text) (r : Result Script ScriptFault) → Answers r (read_byt
 refused z (Ok m) h = tt
 refused z (Err Memory) h = tt
 refused z (Err (ScriptSyntax n)) h =
-    source_refused z (ScriptSyntax n) (front_is_text z) (h (λ (x : ScriptSyntax n ≡ Memory). cc)) (λ (x : ScriptSyntax n ≡ Memory). cc)
+    source_refused z (ScriptSyntax n) (h (λ (x : ScriptSyntax n ≡ Memory). cc)) (λ (x : ScriptSyntax n ≡ Memory). cc)
 
 -- what holds of each script of the grammar holds of what is read
 pub of_read : (P : Script → Type 0) (z : Text) (r : Result Script ScriptFault) → Answers r (read_bytes z)

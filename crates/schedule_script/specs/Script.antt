@@ -1,5 +1,5 @@
 -- Scripts: how they are read, and their grammar.
-use Rattle.std.specs.Prelude.{◌≡◌, ◌⊎◌, ℕ, ◌≢◌, if◌then◌else◌, false, List, [], take, Result, Ok, Err}
+use Rattle.std.specs.Prelude.{◌≡◌, ◌⊎◌, ℕ, ◌≢◌, if◌then◌else◌, false, List, [], Result, Ok, Err}
 use Rattle.std.specs.Str.{IsUtf8, is_utf8}
 use Rattle.std.specs.Str.Lossy.{utf8_valid_len}
 use Rattle.text_tokens.specs.declared.kind.Kind.TheVariants as k
@@ -61,35 +61,23 @@ answered (Ok s) = Ok s
 answered (Err early.Memory) = Err Memory
 answered (Err (early.Refused fault place)) = Err (ScriptSyntax place)
 
--- the text goes on after this place with bytes that are no text
-abbrev pub cut_off : ℕ → Result Script ScriptFault → Result Script ScriptFault
-cut_off place (Ok s) = Err (ScriptSyntax place)
-cut_off place (Err fault) = Err fault
-
 unfoldable pub read_text : Text → Result Script ScriptFault
 read_text z = answered (read_whole language.Script script z)
 
--- the longest front of these bytes that is UTF-8
-abbrev pub valid_front : Text → Text
-valid_front z = take (utf8_valid_len z) z
-
--- the script of the bytes, or the first place at which they are none
+-- the script of the bytes, or the first place at which they are none; what is no UTF-8 is refused before all else
 unfoldable pub read_bytes : Text → Result Script ScriptFault
-read_bytes z = if is_utf8 z then read_text z else cut_off (utf8_valid_len z) (read_text (valid_front z))
+read_bytes z = if is_utf8 z then read_text z else Err (ScriptSyntax (utf8_valid_len z))
 
 -- an answer, which is this one unless memory fails
 abbrev pub Answers : Result Script ScriptFault → Result Script ScriptFault → Type 0
 Answers (Ok s) outcome = outcome ≡ Ok s
 Answers (Err fault) outcome = fault ≢ Memory → outcome ≡ Err fault
 
--- The text is no script from this place on: the words as far as the one that stands here are the beginning of no script; or its longest front that is UTF-8
--- is one, and ends here.
+-- the words as far as the one that stands here are the beginning of no script
 abbrev pub LeavesGrammar : Text → ℕ → Type 0
-LeavesGrammar z place =
-    ((fault : Fault) × IsRefusedAt language.Script IsScript (valid_front z) fault place)
-    ⊎ ((is_utf8 z ≡ false) × (place ≡ utf8_valid_len z) × ((s : Script) × ScriptText (valid_front z) s))
+LeavesGrammar z place = (fault : Fault) × IsRefusedAt language.Script IsScript z fault place
 
--- the cause of a refusal; want of memory has none
+-- the cause of a refusal: the longest front that is UTF-8 ends here, or all is UTF-8 and the words leave the grammar here; want of memory has none
 abbrev pub IsRefusedText : Text → ScriptFault → Type 0
-IsRefusedText z (ScriptSyntax place) = LeavesGrammar z place
+IsRefusedText z (ScriptSyntax place) = ((is_utf8 z ≡ false) × (place ≡ utf8_valid_len z)) ⊎ (IsUtf8 z × LeavesGrammar z place)
 IsRefusedText z Memory = Unit {0}

@@ -1,7 +1,6 @@
 //! Whole scripts.
 
-ghost use Rattle.std.specs.Prelude.{◌≡◌, ◌≤◌, length, take, Ok, IfOk, IfErr};
-ghost use Rattle.std.specs.Str.{IsUtf8};
+ghost use Rattle.std.specs.Prelude.{◌≡◌, ◌≤◌, length, Ok, IfOk, IfErr};
 ghost use Rattle.text_tokens.specs.declared.kind.Language.TheVariants as language;
 ghost use Rattle.reader_laws.specs.Steps as steps;
 ghost use Rattle.reader_laws.specs.Steps.{Reads, Gives};
@@ -103,33 +102,20 @@ fn read_text(alloc: Global, text: &str) -> Result<Script, ScriptFault>
     }
 }
 
-/// The same of bytes of which only a front is text.
-fn read_front(alloc: Global, text: &[u8], len: usize) -> Result<Script, ScriptFault>
-    requires within { len ≤ length text.now }
-    requires front { IsUtf8 (take len text.now) }
-    ensures { Answers result (spec.cut_off len (spec.read_text (take len text.now))) }
-{
-    let Ok(front) = std::str::from_utf8(&text[..len]) else {
-        unreachable!()
-    };
-    match read_text(alloc, front) {
-        Ok(_) => Err(ScriptFault::ScriptSyntax { at: len as u64 }),
-        Err(fault) => Err(fault),
-    }
-}
-
 #[tactic(auto, unfolding(crate::specs::Script::read_bytes))]
 fn read_bytes(alloc: Global, text: &[u8]) -> Result<Script, ScriptFault>
     ensures { Answers result (spec.read_bytes text.now) }
 {
     match std::str::from_utf8(text) {
         Ok(text) => read_text(alloc, text),
-        Err(error) => read_front(alloc, text, error.valid_up_to()),
+        Err(error) => Err(ScriptFault::ScriptSyntax {
+            at: error.valid_up_to() as u64,
+        }),
     }
 }
 
-/// The script of a text. A text that is not UTF-8 is no script from the first byte on that is none; of two such
-/// places the first is told. Time is linear in the text.
+/// The script of a text. A text that is not UTF-8 is refused before all else, at the end of its longest front that is.
+/// Time is linear in the text.
 pub fn read_script(alloc: Global, text: &[u8]) -> Result<Script, ScriptFault>
     requires { length text.now ≤ 2147483647 }
     // What is read is the script of the text.

@@ -61,7 +61,7 @@ fn first_places_that_are_no_script(rt: HostRuntime) {
         (b"schedule 1; goal 1 by default; at 0 do beta;", 31),
         (b"schedule 1; parallel 0;", 12),
         (b"schedule 1; at 0 do beta; \xff", 26),
-        (b"schedule 1; at ! do beta; \xff", 15),
+        (b"schedule 1; at ! do beta; \xff", 26),
     ];
     for (text, place) in rows {
         is_refused(&rt, rt.alloc(), text, place);
