@@ -20,3 +20,4 @@ pub mod GenForms
 pub mod MarkSteps
 pub mod PrintingLaws
 pub mod WordForms
+pub mod LengthForms

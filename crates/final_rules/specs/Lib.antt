@@ -1,6 +1,7 @@
 pub mod Accepted
 pub mod Form
 pub mod Goals
+pub mod Lengths
 pub mod Met
 pub mod Owed
 pub mod Places

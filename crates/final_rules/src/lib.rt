@@ -7,6 +7,7 @@ pub mod form;
 pub mod frames;
 pub mod goal;
 pub mod laws;
+pub mod lengths;
 pub mod lines;
 pub mod lowerable;
 pub mod marks;

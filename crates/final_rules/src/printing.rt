@@ -52,7 +52,7 @@ pub struct Scene {
 }
 
 /// The number of the next index after one that is small, or the number of one that is not.
-fn next(small: bool, number: u64) -> Result<u64, Stop>
+pub fn next(small: bool, number: u64) -> Result<u64, Stop>
     ensures { Counts (next small number) result }
 {
     if !small {
