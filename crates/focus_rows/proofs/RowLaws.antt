@@ -31,7 +31,8 @@ array_is : (q : ℕ) → array q ≡ gen (size_form 0) (index (variant.TVar q) (
 array_is q = Gen-is (size_form 0) (variant.Index (variant.TVar q) (var_form 0)) ∙ ap (gen (size_form 0)) (Index-is (variant.TVar q) (var_form 0))
 
 array_in : (q v t : ℕ) → term_scoped 1 (variant.TVar q) (v + 1) t ≡ true → term_scoped 1 (gen (size_form 0) (index (variant.TVar q) (var_form 0))) v t ≡ true
-array_in q v t h = and_from (items_scoped 1 0 (size_form 0)) _ size_in (and_from (term_scoped 1 (variant.TVar q) (v + 1) t) _ h (ap (λ (w : ℕ). items_scoped 1 w (var_form 0)) (one v) ∙ var_in v))
+array_in q v t h = and_from (items_scoped 1 0 (size_form 0)) _ size_in (and_from (term_scoped 1 (variant.TVar q) (v + 1) t) _ h
+    (ap (λ (w : ℕ). items_scoped 1 w (var_form 0)) (one v) ∙ var_in v))
   where
     one : (v : ℕ) → v + 1 ≡ suc v
     one v = omega arith
@@ -43,7 +44,8 @@ abbrev pub named : Term
 named = variant.Let (variant.TVar 0) (array 0)
 
 copied_is : copied ≡ gen (size_form 0) (index (gen (size_form 0) (index (variant.TVar 0) (var_form 0))) (var_form 0))
-copied_is = Gen-is (size_form 0) (variant.Index (array 0) (var_form 0)) ∙ ap (gen (size_form 0)) (Index-is (array 0) (var_form 0) ∙ ap (λ (a : Term). index a (var_form 0)) (array_is 0))
+copied_is = Gen-is (size_form 0) (variant.Index (array 0) (var_form 0)) ∙ ap (gen (size_form 0)) (Index-is (array 0) (var_form 0)
+    ∙ ap (λ (a : Term). index a (var_form 0)) (array_is 0))
 
 named_is : named ≡ let_in (variant.TVar 0) (gen (size_form 0) (index (variant.TVar 0) (var_form 0)))
 named_is = Let-is (variant.TVar 0) (array 0) ∙ ap (let_in (variant.TVar 0)) (array_is 0)
@@ -51,7 +53,8 @@ named_is = Let-is (variant.TVar 0) (array 0) ∙ ap (let_in (variant.TVar 0)) (a
 pub copied_in : term_scoped 1 copied 0 1 ≡ true
 copied_in =
     ap (λ (e : Term). term_scoped 1 e 0 1) copied_is
-    ∙ and_from (items_scoped 1 0 (size_form 0)) _ size_in (and_from (term_scoped 1 (gen (size_form 0) (index (variant.TVar 0) (var_form 0))) 1 1) _ (array_in 0 1 1 refl) (var_in 0))
+    ∙ and_from (items_scoped 1 0 (size_form 0)) _ size_in (and_from (term_scoped 1 (gen (size_form 0) (index (variant.TVar 0) (var_form 0))) 1 1) _
+    (array_in 0 1 1 refl) (var_in 0))
 
 pub named_in : term_scoped 1 named 0 1 ≡ true
 named_in =
@@ -77,8 +80,10 @@ pub one_is : {A : Type 0} (xs ys : List A) (x : A) → ys ≡ xs ++ x ∷ [] →
 one_is xs ys x e f = e ∙ ap (λ zs. zs ++ x ∷ []) f
 
 pub one_input : (ds : List InputDecl) (d : InputDecl) → ds ≡ d ∷ [] → d.extents ≡ size_form 0 ∷ [] → (inputs_scoped 1 ds ≡ true) × (length ds ≡ 1)
-one_input ds d e f =
-    (ap (inputs_scoped 1) e ∙ and_from (extents_scoped 1 d.extents) _ (ap (extents_scoped 1) f ∙ and_from (items_scoped 1 0 (size_form 0)) _ size_in refl) refl, ap length e)
+one_input ds d e f = (
+  ap (inputs_scoped 1) e ∙ and_from (extents_scoped 1 d.extents) _ (ap (extents_scoped 1) f ∙ and_from (items_scoped 1 0 (size_form 0)) _ size_in refl) refl,
+  ap length e,
+)
 
 pub one_term : (os : List OutputDecl) (o : OutputDecl) (e : Term) → os ≡ o ∷ [] → o.term ≡ e → term_scoped 1 e 0 1 ≡ true → node_count e ≤ 20000
     → (outputs_scoped 1 1 os ≡ true) × (length os ≡ 1) × All (λ (o : OutputDecl). node_count o.term ≤ 20000) os
