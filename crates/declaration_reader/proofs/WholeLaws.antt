@@ -1,5 +1,5 @@
 -- What the code reads of a whole text is what the readers of the grammar read.
-use Rattle.std.proofs.Common.{◌≡◌, ℕ, ◌==◌, Bool, true, false, List, [], ◌∷◌, ◌++◌, length, Result, Ok, Err, refl, sym, ap, ◌∙◌, append_assoc, append-nil}
+use Rattle.std.proofs.Common.{◌≡◌, ℕ, ◌==◌, Bool, true, false, List, [], ◌∷◌, ◌++◌, length, Ok, Err, refl, sym, ap, ◌∙◌, append_assoc, append-nil}
 use Rattle.text_tokens.specs.declared.kind.Kind.TheVariants as k
 use Rattle.text_tokens.specs.Kinds.{Text}
 use Rattle.text_tokens.specs.Words.{Input}

@@ -1,9 +1,8 @@
 -- What is read names only what is there.
-use Rattle.std.proofs.Common.{◌≡◌, ◌⊎◌, inl, inr, ℕ, zero, suc, ◌+◌, ◌<◌, ◌≤◌, ◌==◌, ◌&&◌, not, nat_le, nat_lt, Bool, true, false, cond, List, [], ◌∷◌, ◌++◌}
-use Rattle.std.proofs.Common.{length, map, Option, Some, None, Result, Ok, Err, refl, sym, ap, subst, ◌∙◌, arith}
+use Rattle.std.proofs.Common.{◌≡◌, ℕ, zero, suc, ◌==◌, not, nat_le, nat_lt, Bool, true, false, cond, List, [], ◌∷◌, ◌++◌}
+use Rattle.std.proofs.Common.{Option, Some, None, Result, Ok, Err, refl, sym, subst}
 use Rattle.std.specs.Prelude.{pos}
 use Rattle.std.specs.Int.RustNames.{unsigned_abs}
-use Rattle.std.specs.Str.{bytes_eq}
 use Rattle.std.proofs.lemmas.Bool.{and_from, and_parts}
 use Rattle.text_tokens.specs.declared.kind.Kind.{Kind}
 use Rattle.text_tokens.specs.declared.kind.Kind.TheVariants as k
@@ -11,9 +10,8 @@ use Rattle.text_tokens.specs.Kinds.{Text}
 use Rattle.text_tokens.specs.Numbers.{number}
 use Rattle.text_tokens.specs.Words.{Word}
 use Rattle.affine_index.specs.Condition.{all_scoped, cmp_form}
-use Rattle.affine_index.specs.Form.{literal_form, size_form, var_form}
+use Rattle.affine_index.specs.Form.{literal_form}
 use Rattle.affine_index.specs.Limited.{items_scoped}
-use Rattle.affine_index.specs.Normal.{holds_var}
 use Rattle.affine_index.specs.Product.{product_of}
 use Rattle.affine_index.specs.Quotient.{quotient_of, remainder_of}
 use Rattle.affine_index.specs.Sum.{difference_of, sum_of}
@@ -23,25 +21,18 @@ use Rattle.affine_index.specs.declared.cond.Cond.{Cond}
 use Rattle.affine_index.specs.declared.cond.Rel.{Rel}
 use Rattle.affine_index.specs.declared.cond.Rel.TheVariants as rel
 use Rattle.affine_index.specs.declared.form.Items.{Items}
-use Rattle.affine_index.proofs.FormScopes.{Form, difference-form, form-of, of-form, product-form, quotient-form, remainder-form, sum-form}
-use Rattle.term_tree.specs.Scope.{cond_scoped, is_empty, term_scoped}
-use Rattle.term_tree.specs.declared.term.Term.{Term}
+use Rattle.affine_index.proofs.FormScopes.{Form, difference-form, of-form, product-form, quotient-form, remainder-form, sum-form}
+use Rattle.term_tree.specs.Scope.{cond_scoped, is_empty}
 use Rattle.reader_laws.specs.declared.fault.Fault.{Fault}
-use Rattle.reader_laws.specs.declared.fault.Fault.TheVariants.{BadSyntax, NumberTooLarge, UnknownName}
-use Rattle.reader_laws.specs.Grammar.{IsChain, IsRepeated}
+use Rattle.reader_laws.specs.declared.fault.Fault.TheVariants.{BadSyntax, NumberTooLarge}
 use Rattle.reader_laws.proofs.Chains.{chain_keeps}
 use Rattle.reader_laws.proofs.Repeated.{repeated_keeps}
 use Rattle.source_grammar.specs.declared.operator.Operator.{Operator}
 use Rattle.source_grammar.specs.declared.operator.Operator.TheVariants.{Plus, Minus, Times, Over, Modulo}
-use Rattle.source_grammar.specs.declared.sort.Meaning.{Meaning}
-use Rattle.source_grammar.specs.declared.sort.Sort.{Sort}
-use Rattle.source_grammar.specs.declared.sort.Sort.TheVariants.{OfSize, OfIndex, OfTensor}
 use Rattle.source_grammar.specs.Conditions.{IsComparison, IsCondition, compared, if_tested, with_last}
-use Rattle.source_grammar.specs.Index.{IsByLevel, IsIndex, IsInner, IsPart, IsPartBy, IsProduct, IsRight, IsSum, Level, Part, Product, Sum, divisor_if}
-use Rattle.source_grammar.specs.Index.{divisor_value, join, literal_if, literal_value, products, sums}
-use Rattle.source_grammar.specs.Limits.{multiplied, tested}
-use Rattle.source_grammar.specs.Scope.{Entry, Scope, extent_name, if_known, index_form, index_name, meaning, past, same_sort, size_form_of, tensor_name}
-use Rattle.source_grammar.specs.Scope.{tensor_number}
+use Rattle.source_grammar.specs.Index.{IsByLevel, IsIndex, IsInner, IsPartBy, IsProduct, IsRight, IsSum, Level, Part, Product, Sum, divisor_if}
+use Rattle.source_grammar.specs.Index.{join, literal_if, products, sums}
+use Rattle.source_grammar.specs.Limits.{tested}
 use Rattle.source_grammar.proofs.NormalForms.{multiplied_is, tested_is}
 
 -- ---- index expressions

@@ -1,5 +1,5 @@
 -- A module that is read is well scoped.
-use Rattle.std.proofs.Common.{◌≡◌, ℕ, zero, suc, ◌+◌, ◌==◌, ◌&&◌, if◌then◌else◌, Bool, true, false, List, [], ◌∷◌, ◌++◌, length, map, Ok, refl, sym, ap, subst}
+use Rattle.std.proofs.Common.{◌≡◌, ℕ, ◌+◌, ◌==◌, ◌&&◌, if◌then◌else◌, Bool, true, false, List, [], ◌∷◌, ◌++◌, length, map, Ok, refl, sym, ap, subst}
 use Rattle.std.proofs.Common.{◌∙◌, arith}
 use Rattle.std.proofs.lemmas.Bool.{and_from, and_parts}
 use Rattle.text_tokens.specs.declared.kind.Kind.TheVariants as k
@@ -13,7 +13,7 @@ use Rattle.affine_index.specs.declared.cond.Cond.{Cond}
 use Rattle.affine_index.specs.declared.form.Items.{Items}
 use Rattle.affine_index.proofs.FormScopes.{Form, of-form}
 use Rattle.term_tree.specs.Modules.{extents_scoped, inputs_scoped, module_scoped, outputs_scoped}
-use Rattle.term_tree.specs.Scope.{is_empty, term_scoped}
+use Rattle.term_tree.specs.Scope.{term_scoped}
 use Rattle.term_tree.specs.declared.term.SizeDecl.{SizeDecl}
 use Rattle.term_tree.specs.declared.term.InputDecl.{InputDecl}
 use Rattle.term_tree.specs.declared.term.OutputDecl.{OutputDecl}
@@ -23,7 +23,7 @@ use Rattle.source_grammar.specs.declared.sort.Sort.{Sort}
 use Rattle.source_grammar.specs.declared.sort.Sort.TheVariants.{OfSize, OfIndex, OfTensor}
 use Rattle.source_grammar.specs.Conditions.{with_last}
 use Rattle.source_grammar.specs.Index.{Sum}
-use Rattle.source_grammar.specs.Scope.{Entry, Scope, extent_name, same_sort}
+use Rattle.source_grammar.specs.Scope.{Scope, extent_name, same_sort}
 use Rattle.source_grammar.specs.Source.{AreAssumes, AreInputs, AreMoreOutputs, AreOutputs, IsAssume, IsExtentOf, IsInputLine, IsOutputLine, IsSource, declared}
 use Rattle.source_grammar.specs.Source.{entries, input_names, size_names, with_all}
 use Rattle.source_grammar.specs.Terms.{Whole}

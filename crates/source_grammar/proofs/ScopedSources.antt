@@ -1,9 +1,8 @@
 -- Terms and modules that are read name only what is there.
-use Rattle.std.proofs.Common.{◌≡◌, ◌⊎◌, inl, inr, ℕ, zero, suc, ◌+◌, ◌-◌, ◌<◌, ◌≤◌, ◌==◌, ◌&&◌, nat_le, nat_lt, Bool, true, false, cond, List, [], ◌∷◌, ◌++◌}
-use Rattle.std.proofs.Common.{length}
-use Rattle.std.proofs.Common.{map, Option, Some, None, Result, Ok, Err, refl, sym, ap, subst, ◌∙◌, arith}
+use Rattle.std.proofs.Common.{◌≡◌, inl, inr, ℕ, zero, suc, ◌+◌, ◌-◌, ◌<◌, ◌≤◌, ◌==◌, ◌&&◌, nat_le, nat_lt, Bool, true, false, cond, List, [], ◌∷◌}
+use Rattle.std.proofs.Common.{Option, Some, None, Result, Ok, Err, refl, sym, ap, subst, ◌∙◌, arith}
 use Rattle.std.specs.Str.{bytes_eq}
-use Rattle.std.proofs.lemmas.Bool.{and_from, and_parts}
+use Rattle.std.proofs.lemmas.Bool.{and_from}
 use Rattle.text_tokens.specs.declared.kind.Kind.{Kind}
 use Rattle.text_tokens.specs.declared.kind.Kind.TheVariants as k
 use Rattle.text_tokens.specs.Kinds.{Text}
@@ -12,7 +11,6 @@ use Rattle.text_tokens.specs.Words.{Word}
 use Rattle.affine_index.specs.Form.{size_form, var_form}
 use Rattle.affine_index.specs.Limited.{items_scoped}
 use Rattle.affine_index.specs.declared.aff.Aff.{Aff}
-use Rattle.affine_index.specs.declared.cond.Cmp.{Cmp}
 use Rattle.affine_index.specs.declared.form.Items.{Items}
 use Rattle.affine_index.proofs.FormScopes.{Form, of-form}
 use Rattle.affine_index.proofs.ReadyLaws.{scoped-Size, scoped-Var}
@@ -20,9 +18,9 @@ use Rattle.term_tree.specs.Scope.{cond_scoped, term_scoped}
 use Rattle.term_tree.specs.Syntax as term
 use Rattle.term_tree.specs.declared.term.Term.{Term}
 use Rattle.reader_laws.specs.declared.fault.Fault.{Fault}
-use Rattle.reader_laws.specs.declared.fault.Fault.TheVariants.{BadSyntax, NumberTooLarge, UnknownName}
+use Rattle.reader_laws.specs.declared.fault.Fault.TheVariants.{BadSyntax, NumberTooLarge}
 use Rattle.reader_laws.specs.Chain.{Links}
-use Rattle.reader_laws.specs.Grammar.{IsChain, OneOf}
+use Rattle.reader_laws.specs.Grammar.{IsChain}
 use Rattle.reader_laws.proofs.Chains.{chain_keeps}
 use Rattle.source_grammar.specs.declared.sort.Meaning.{Meaning}
 use Rattle.source_grammar.specs.declared.sort.Sort.{Sort}
@@ -32,7 +30,7 @@ use Rattle.source_grammar.specs.Index.{Sum as index_sum}
 use Rattle.source_grammar.specs.Scope.{Entry, Scope, extent_name, if_known, index_form, index_name, meaning, past, same_sort, size_form_of, tensor_name}
 use Rattle.source_grammar.specs.Scope.{tensor_number}
 use Rattle.source_grammar.specs.Terms.{Factor, IsBinderBy, IsByPlace, IsFactor, IsGuard, IsInBrackets, IsInner, IsJoin, IsLet, IsLoop, IsOf, IsPrimaryBy}
-use Rattle.source_grammar.specs.Terms.{IsProduct, IsSplit, IsSum, IsTerm, IsTrim, IsWhole, Place, Product, Sum, Whole, brackets, index_entry, product_sign}
+use Rattle.source_grammar.specs.Terms.{IsProduct, IsSplit, IsSum, IsTerm, IsTrim, Place, Product, Sum, Whole, brackets, index_entry, product_sign}
 use Rattle.source_grammar.specs.Terms.{products, sum_sign, sums, tensor_entry, tile_if}
 use Rattle.source_grammar.proofs.ScopedLaws.{condition_scoped, index_scoped}
 

@@ -1,9 +1,8 @@
 -- Chains whose operators always join, beside the loops that read them.
-use Rattle.std.proofs.Common.{◌≡◌, ℕ, suc, ◌+◌, ◌-◌, ◌<◌, ◌≤◌, Some, Result, Ok, Err, refl, ap, ◌∙◌, arith}
+use Rattle.std.proofs.Common.{◌≡◌, ℕ, suc, ◌+◌, ◌-◌, ◌<◌, Some, Result, Ok, Err, refl, ap, ◌∙◌, arith}
 use Rattle.text_tokens.specs.Words.{Word, Input, peek, next}
 use Rattle.reader_laws.specs.declared.fault.Fault.{Fault}
 use Rattle.reader_laws.specs.declared.fault.Fault.TheVariants.{TooDeep}
-use Rattle.reader_laws.specs.declared.fault.ReadError.{ReadError}
 use Rattle.reader_laws.specs.Steps.{Parser, Outcome, and_then, ◌>>=◌, pure, refusal, kind}
 use Rattle.reader_laws.specs.Chain.{Links, joined, chain}
 use Rattle.reader_laws.proofs.Loops.{chain_go}

@@ -4,7 +4,6 @@ use Rattle.text_tokens.specs.declared.kind.Kind.TheVariants as k
 use Rattle.text_tokens.specs.Kinds.{Text}
 use Rattle.text_tokens.specs.Words.{Word, Input}
 use Rattle.affine_index.specs.declared.cond.Cmp.{Cmp}
-use Rattle.affine_index.specs.declared.cond.Cmp.TheVariants.{Ge, Eq}
 use Rattle.affine_index.specs.declared.cond.Cond.{Cond}
 use Rattle.affine_index.specs.declared.cond.Rel.{Rel}
 use Rattle.affine_index.specs.declared.cond.Rel.TheVariants as rel

@@ -1,5 +1,5 @@
 -- Chains of a term, beside the loops that read them.
-use Rattle.std.proofs.Common.{◌≡◌, ◌≢◌, ℕ, zero, suc, ◌+◌, ◌-◌, ◌<◌, ◌≤◌, Bool, true, false, Option, Some, None, Result, Ok, Err, refl, sym, ap, subst, ◌∙◌}
+use Rattle.std.proofs.Common.{◌≡◌, ◌≢◌, ℕ, zero, suc, ◌+◌, ◌-◌, ◌<◌, ◌≤◌, true, false, Some, None, Ok, Err, refl, ap, ◌∙◌}
 use Rattle.std.proofs.Common.{arith}
 use Rattle.text_tokens.specs.declared.kind.Kind.{Kind}
 use Rattle.text_tokens.specs.declared.kind.Kind.TheVariants as k
@@ -12,7 +12,6 @@ use Rattle.reader_laws.specs.declared.fault.ReadError.{ReadError}
 use Rattle.reader_laws.specs.declared.fault.ReadError.TheVariants.{Memory}
 use Rattle.reader_laws.specs.Levels.{word_in}
 use Rattle.reader_laws.specs.Steps.{Outcome, and_then, pure, refusal, kind, no_value}
-use Rattle.reader_laws.specs.Chain.{chain}
 use Rattle.reader_laws.proofs.Outcomes.{is_same}
 use Rattle.reader_laws.proofs.Loops.{chain_stop, chain_full}
 use Rattle.source_grammar.specs.Scope.{Scope, index_name}

@@ -1,4 +1,4 @@
-use Rattle.std.proofs.Common.{rules, ◌≡◌, ◌≢◌, ◌∙◌, sym, ap, map, Some, Err, ◌<◌, ◌≤◌, arith}
+use Rattle.std.proofs.Common.{rules, ◌≡◌, ◌≢◌, ◌∙◌, sym, ap, Some, Err, ◌<◌, ◌≤◌, arith}
 use Rattle.text_tokens.specs.Words.{peek, next}
 use Rattle.reader_laws.specs.Steps.{kind}
 use Rattle.source_grammar.specs.Index.{max_text, product_operator, sum_operator}

@@ -1,4 +1,4 @@
-use Rattle.std.proofs.Common.{◌≡◌, ◌-◌, ◌+◌, ◌*◌, map}
+use Rattle.std.proofs.Common.{◌≡◌, ◌-◌, ◌+◌, ◌*◌}
 use Rattle.source_grammar.specs.Index.{max_text}
 use Rattle.source_grammar.specs.ReadIndex as spec
 use Rattle.term_reader.specs.Names.{named}

@@ -1,4 +1,4 @@
-use Rattle.std.proofs.Common.{◌≡◌, ℕ, List, ap, ◌∙◌, Bor}
+use Rattle.std.proofs.Common.{ℕ, List, ap, ◌∙◌, Bor}
 use Rattle.reader_laws.specs.Steps.{place_from}
 use Rattle.term_reader.proofs.ScopeLaws.{place_position}
 use Rattle.term_reader.proofs.scope.NameSet.place.Goals as goal
