@@ -1,5 +1,6 @@
 -- In an accepted module each claim holds where its path does, and each printed form is exact.
-use Rattle.std.proofs.Common.{◌≡◌, ℕ, zero, suc, ◌+◌, ◌≤◌, List, [], ◌∷◌, ◌++◌, length, map, append_assoc, refl, ap, sym, ◌∙◌, subst, arith, Bool, true, false, ◌&&◌, nat_le, Some, None, if◌then◌else◌, Ok, Err}
+use Rattle.std.proofs.Common.{◌≡◌, ℕ, zero, suc, ◌+◌, ◌≤◌, List, [], ◌∷◌, ◌++◌, length, map, append_assoc, refl, ap, sym, ◌∙◌, subst, arith, Bool, true, false}
+use Rattle.std.proofs.Common.{◌&&◌, nat_le, Some, None, if◌then◌else◌, Ok, Err}
 use Rattle.std.specs.Prelude.{slice_index}
 use Rattle.std.proofs.Math.Seq.{get_or-append_seam}
 use Rattle.std.proofs.lemmas.Bool.{and_parts}
@@ -81,12 +82,17 @@ small_le n k h = grind arith
 
 module _ (m : Module) (s : List ℕ) (a : Allowed m s) (scoped : module_scoped m ≡ true) where
   facts-hold : (c : Claim) (y : List ℕ) → PathHolds s y c.path → FactsHold (goal_of (module_facts m) c).facts s y
-  facts-hold c y h = (within_at m.sizes s [] a.within, hold-closed (length m.sizes) s y m.assumes (and_parts (all_scoped (length m.sizes) 0 m.assumes) _ scoped).0 ∙ a.assumed, h)
+  facts-hold c y h = (
+    within_at m.sizes s [] a.within,
+    hold-closed (length m.sizes) s y m.assumes (and_parts (all_scoped (length m.sizes) 0 m.assumes) _ scoped).0 ∙ a.assumed,
+    h,
+  )
 
   met-holds : (c : Claim) (lines : Lines) → is_met (goal_of (module_facts m) c) lines ≡ true → ClaimHolds s (maxima m) c
   met-holds c lines e = by c.form refl e
     where
-      shown : (x : Items) (b : Bool) → is_normal x ≡ b → shows (goal_of (module_facts m) c).facts (if b then Some x else None) lines ≡ true → (is_normal x ≡ true) × (is_shown (goal_of (module_facts m) c).facts x lines ≡ true)
+      shown : (x : Items) (b : Bool) → is_normal x ≡ b → shows (goal_of (module_facts m) c).facts (if b then Some x else None) lines ≡ true
+          → (is_normal x ≡ true) × (is_shown (goal_of (module_facts m) c).facts x lines ≡ true)
       shown x true n h = (n, h)
       shown x false n h = absurd (cc)
 
@@ -96,7 +102,8 @@ module _ (m : Module) (s : List ℕ) (a : Allowed m s) (scoped : module_scoped m
           (x, q, λ y k g. shown-at-place (goal_of (module_facts m) c).facts x lines p.0 k p.1 s y (facts-hold c y g))
       by (Err f) q h = absurd (cc)
 
-  pub claims-hold : (finals : List FinalLine) (k : ℕ) (cs : List Claim) → goal_fault finals k (goals_with (module_facts m) cs) ≡ None → Every (ClaimHolds s (maxima m)) cs
+  pub claims-hold : (finals : List FinalLine) (k : ℕ) (cs : List Claim) → goal_fault finals k (goals_with (module_facts m) cs) ≡ None
+      → Every (ClaimHolds s (maxima m)) cs
   claims-hold finals k [] e = tt
   claims-hold finals k (c ∷ cs) e =
       let g = goal_of (module_facts m) c in
@@ -110,7 +117,8 @@ module _ (m : Module) (s : List ℕ) (a : Allowed m s) (scoped : module_scoped m
   abbrev pub InScope : Printed → Type 0
   InScope i = (x : Items) → i.form ≡ Ok x → items_scoped (length m.sizes) (length i.scope) x ≡ true
 
-  form-holds : (i : Printed) (x : Items) → i.form ≡ Ok x → items_scoped (length m.sizes) (length i.scope) x ≡ true → (is_normal x && nat_le (magnitude (maxima m) (greatest (maxima m) i.scope) x) largest_index) ≡ true → PrintedHolds s (maxima m) i
+  form-holds : (i : Printed) (x : Items) → i.form ≡ Ok x → items_scoped (length m.sizes) (length i.scope) x ≡ true
+      → (is_normal x && nat_le (magnitude (maxima m) (greatest (maxima m) i.scope) x) largest_index) ≡ true → PrintedHolds s (maxima m) i
   form-holds i x e c h = (
     x,
     e,
@@ -121,8 +129,10 @@ module _ (m : Module) (s : List ℕ) (a : Allowed m s) (scoped : module_scoped m
         let ls : length m.sizes ≡ length (maxima m) = sym (length-map (λ d. at_least_one d.high) m.sizes) in
         let lv : length i.scope ≡ length most = sym (length-map (λ n. at_least_one (magnitude (maxima m) [] n)) i.scope) in
         let d = subst (λ (k : ℕ). items_scoped k (length most) x ≡ true) ls (subst (λ (k : ℕ). items_scoped (length m.sizes) k x ≡ true) lv c) in
-        let le = small_le (magnitude (maxima m) most x) largest_index q.1 in
-        (trees-exact x o.0 s y r (maxima m) most turns maxima-within within (sym lv ∙ l) d le, omega (arith, form-most s y (maxima m) most maxima-within within x d, le)),
+        let le = small_le (magnitude (maxima m) most x) largest_index q.1 in (
+          trees-exact x o.0 s y r (maxima m) most turns maxima-within within (sym lv ∙ l) d le,
+          omega (arith, form-most s y (maxima m) most maxima-within within x d, le),
+        ),
   )
 
   small-holds : (i : Printed) → InScope i → is_small (maxima m) i ≡ true → PrintedHolds s (maxima m) i
@@ -132,7 +142,11 @@ module _ (m : Module) (s : List ℕ) (a : Allowed m s) (scoped : module_scoped m
       by (Ok x) q h = form-holds i x q (c x q) h
       by (Err f) q h = absurd (cc)
 
-  pub printed-hold : (k : ℕ) (is : List Printed) (xs : List Expression) → Every InScope is → large_fault (maxima m) k (map Index is ++ xs) ≡ None → Every (PrintedHolds s (maxima m)) is
+  pub printed-hold : (k : ℕ) (is : List Printed) (xs : List Expression) → Every InScope is → large_fault (maxima m) k (map Index is ++ xs) ≡ None
+      → Every (PrintedHolds s (maxima m)) is
   printed-hold k [] xs c e = tt
   printed-hold k (i ∷ is) xs c e =
-      let p = if_none (is_small (maxima m) i) (large_fault (maxima m) (k + 1) (map Index is ++ xs)) (IndexTooLarge k) e in (small-holds i c.0 p.0, printed-hold (k + 1) is xs c.1 p.1)
+      let p = if_none (is_small (maxima m) i) (large_fault (maxima m) (k + 1) (map Index is ++ xs)) (IndexTooLarge k) e in (
+        small-holds i c.0 p.0,
+        printed-hold (k + 1) is xs c.1 p.1,
+      )

@@ -3,9 +3,11 @@ use Rattle.std.proofs.Common.{◌≡◌, ℕ, List, [], ◌∷◌, ◌++◌, ap,
 use Rattle.affine_index.specs.declared.aff.Aff.{Aff}
 use Rattle.affine_index.specs.declared.cond.Cond.{Cond}
 use Rattle.term_tree.specs.declared.term.Term.{Term}
-use Rattle.term_tree.specs.declared.term.Term.TheVariants.{Index, Gen, Sum, Guard, Let, Add, Sub, Mul, Concat, Flatten, Split, Transpose, TruncL, TruncR, PadL, PadR}
+use Rattle.term_tree.specs.declared.term.Term.TheVariants.{Index, Gen, Sum, Guard, Let, Add, Sub, Mul, Concat, Flatten, Split, Transpose, TruncL, TruncR, PadL}
+use Rattle.term_tree.specs.declared.term.Term.TheVariants.{PadR}
 use Rattle.term_tree.specs.Shape.{Extents}
-use Rattle.term_tree.proofs.Forms.{Index-is, Gen-is, Sum-is, Guard-is, Let-is, Add-is, Sub-is, Mul-is, Concat-is, Flatten-is, Split-is, Transpose-is, TruncL-is, TruncR-is, PadL-is, PadR-is}
+use Rattle.term_tree.proofs.Forms.{Index-is, Gen-is, Sum-is, Guard-is, Let-is, Add-is, Sub-is, Mul-is, Concat-is, Flatten-is, Split-is, Transpose-is, TruncL-is}
+use Rattle.term_tree.proofs.Forms.{TruncR-is, PadL-is, PadR-is}
 use Rattle.final_rules.specs.declared.spot.Spot.{Spot}
 use Rattle.final_rules.specs.Form.{adds_words, read_under}
 use Rattle.final_rules.specs.Goals.{claims_of, full_read_claims_if, leaf_claims}
@@ -28,8 +30,10 @@ module _ (q : Spot) (ts : List Extents) where
   pub claims-Let : (a : Term) (b : Term) → claims_of (Let a b) q ts ≡ claims_of a (alone q) ts ++ claims_of b q (extents_under a ts ∷ ts)
   claims-Let a b = ap (λ f. claims_of f q ts) (Let-is a b)
 
-  pub claims-Add : (a : Term) (b : Term) → claims_of (Add a b) q ts ≡ (if adds_words a b ts then leaf_claims (Add a b) q ts else (claims_of a q ts ++ claims_of b q ts))
-  claims-Add a b = ap (λ f. claims_of f q ts) (Add-is a b) ∙ ap (λ f. if adds_words a b ts then leaf_claims f q ts else (claims_of a q ts ++ claims_of b q ts)) (sym (Add-is a b))
+  pub claims-Add : (a : Term) (b : Term)
+      → claims_of (Add a b) q ts ≡ (if adds_words a b ts then leaf_claims (Add a b) q ts else (claims_of a q ts ++ claims_of b q ts))
+  claims-Add a b = ap (λ f. claims_of f q ts) (Add-is a b) ∙ ap (λ f. if adds_words a b ts then leaf_claims f q ts else (claims_of a q ts ++ claims_of b q ts))
+      (sym (Add-is a b))
 
   pub claims-Sub : (a : Term) (b : Term) → claims_of (Sub a b) q ts ≡ leaf_claims (Sub a b) q ts
   claims-Sub a b = ap (λ f. claims_of f q ts) (Sub-is a b) ∙ ap (λ f. leaf_claims f q ts) (sym (Sub-is a b))
@@ -61,4 +65,21 @@ module _ (q : Spot) (ts : List Extents) where
   pub claims-PadR : (n : Aff) (e : Term) → claims_of (PadR n e) q ts ≡ claims_of e (child_spot (PadR n e) ts q) ts
   claims-PadR n e = ap (λ f. claims_of f q ts) (PadR-is n e) ∙ ap (λ f. claims_of e (child_spot f ts q) ts) (sym (PadR-is n e))
 
-pub ruleset claim_forms = (claims-Index, claims-Gen, claims-Sum, claims-Guard, claims-Let, claims-Add, claims-Sub, claims-Mul, claims-Concat, claims-Flatten, claims-Split, claims-Transpose, claims-TruncL, claims-TruncR, claims-PadL, claims-PadR)
+pub ruleset claim_forms = (
+  claims-Index,
+  claims-Gen,
+  claims-Sum,
+  claims-Guard,
+  claims-Let,
+  claims-Add,
+  claims-Sub,
+  claims-Mul,
+  claims-Concat,
+  claims-Flatten,
+  claims-Split,
+  claims-Transpose,
+  claims-TruncL,
+  claims-TruncR,
+  claims-PadL,
+  claims-PadR,
+)

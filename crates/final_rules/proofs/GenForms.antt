@@ -3,8 +3,10 @@ use Rattle.std.proofs.Common.{◌≡◌, ℕ, ap, Some, None}
 use Rattle.affine_index.specs.declared.aff.Aff.{Aff}
 use Rattle.affine_index.specs.declared.cond.Cond.{Cond}
 use Rattle.term_tree.specs.declared.term.Term.{Term}
-use Rattle.term_tree.specs.declared.term.Term.TheVariants.{Index, Gen, Sum, Guard, Let, Add, Sub, Mul, Concat, Flatten, Split, Transpose, TruncL, TruncR, PadL, PadR}
-use Rattle.term_tree.proofs.Forms.{Index-is, Gen-is, Sum-is, Guard-is, Let-is, Add-is, Sub-is, Mul-is, Concat-is, Flatten-is, Split-is, Transpose-is, TruncL-is, TruncR-is, PadL-is, PadR-is}
+use Rattle.term_tree.specs.declared.term.Term.TheVariants.{Index, Gen, Sum, Guard, Let, Add, Sub, Mul, Concat, Flatten, Split, Transpose, TruncL, TruncR, PadL}
+use Rattle.term_tree.specs.declared.term.Term.TheVariants.{PadR}
+use Rattle.term_tree.proofs.Forms.{Index-is, Gen-is, Sum-is, Guard-is, Let-is, Add-is, Sub-is, Mul-is, Concat-is, Flatten-is, Split-is, Transpose-is, TruncL-is}
+use Rattle.term_tree.proofs.Forms.{TruncR-is, PadL-is, PadR-is}
 use Rattle.final_rules.specs.Rules.{gen_body}
 
 pub body-Index : (e : Term) (x : Aff) → gen_body (Index e x) ≡ None
@@ -55,4 +57,21 @@ body-PadL n e = ap gen_body (PadL-is n e)
 pub body-PadR : (n : Aff) (e : Term) → gen_body (PadR n e) ≡ None
 body-PadR n e = ap gen_body (PadR-is n e)
 
-pub ruleset gen_forms = (body-Index, body-Gen, body-Sum, body-Guard, body-Let, body-Add, body-Sub, body-Mul, body-Concat, body-Flatten, body-Split, body-Transpose, body-TruncL, body-TruncR, body-PadL, body-PadR)
+pub ruleset gen_forms = (
+  body-Index,
+  body-Gen,
+  body-Sum,
+  body-Guard,
+  body-Let,
+  body-Add,
+  body-Sub,
+  body-Mul,
+  body-Concat,
+  body-Flatten,
+  body-Split,
+  body-Transpose,
+  body-TruncL,
+  body-TruncR,
+  body-PadL,
+  body-PadR,
+)

@@ -42,12 +42,19 @@ module _ (s maxima : List ℕ) (ws : WithinMaxima s maxima) where
       let p = and_parts (items_scoped (length maxima) 0 x) (length_scoped (length maxima) a && length_scoped (length maxima) b) c in
       let q = and_parts (length_scoped (length maxima) a) (length_scoped (length maxima) b) p.1 in
       let g = greater (length_value s a) (length_value s b) in
-      omega (arith, abs-sum g (items_value s [] x), form-most s [] maxima [] ws none x p.0, one_of (int_lt (length_value s b) (length_value s a)) (length_value s a) (length_value s b) (length_magnitude maxima a) (length_magnitude maxima b) (length-most a q.0) (length-most b q.1))
+      omega (
+        arith,
+        abs-sum g (items_value s [] x),
+        form-most s [] maxima [] ws none x p.0,
+        one_of (int_lt (length_value s b) (length_value s a)) (length_value s a) (length_value s b) (length_magnitude maxima a) (length_magnitude maxima b)
+            (length-most a q.0) (length-most b q.1),
+      )
 
   room : 2 ^ 62 < 2 ^ 63
   room = omega arith
 
-  pub length-exact : (l : Length) → length_scoped (length maxima) l ≡ true → length_normal l ≡ true → length_magnitude maxima l ≤ 2 ^ 62 → reckon (length_tree l) s [] ≡ Value (length_value s l)
+  pub length-exact : (l : Length) → length_scoped (length maxima) l ≡ true → length_normal l ≡ true → length_magnitude maxima l ≤ 2 ^ 62
+      → reckon (length_tree l) s [] ≡ Value (length_value s l)
   length-exact (Plain x) c n h =
       ap (λ t. reckon t s []) (sym (tree-items 0 x))
       ∙ trees-exact x (and_parts (is_ordered x) (coefficients_fit x && is_short x) n).0 s [] [] maxima [] (λ v l. absurd (omega (arith, l))) ws none refl c h
@@ -61,11 +68,15 @@ module _ (s maxima : List ℕ) (ws : WithinMaxima s maxima) where
       let left : length_magnitude maxima a ≤ 2 ^ 62 = larger_left (length_magnitude maxima a) (length_magnitude maxima b) (magnitude maxima [] x) h in
       let right : length_magnitude maxima b ≤ 2 ^ 62 = larger_right (length_magnitude maxima a) (length_magnitude maxima b) (magnitude maxima [] x) h in
       let top : reckon (Larger (length_tree a) (length_tree b)) s [] ≡ Value u =
-      ap (λ t. reckon t s []) (index_larger-is (length_tree a) (length_tree b)) ∙ (λ i. on_both (λ y z. Value (greater y z)) (length-exact a q.0 k.0 left i) (length-exact b q.1 k.1 right i)) in
-      let most = one_of (int_lt (length_value s b) (length_value s a)) (length_value s a) (length_value s b) (length_magnitude maxima a) (length_magnitude maxima b) (length-most a q.0) (length-most b q.1) in
+      ap (λ t. reckon t s []) (index_larger-is (length_tree a) (length_tree b))
+      ∙ (λ i. on_both (λ y z. Value (greater y z)) (length-exact a q.0 k.0 left i) (length-exact b q.1 k.1 right i)) in
+      let most = one_of (int_lt (length_value s b) (length_value s a)) (length_value s a) (length_value s b) (length_magnitude maxima a)
+      (length_magnitude maxima b) (length-most a q.0) (length-most b q.1) in
       let prints = prints_from (2 ^ 62) s [] maxima [] ws none x u o p.0 (omega (arith, most, h)) in
-      (from_exact (2 ^ 62) room s [] [] (λ v l. absurd (omega (arith, l))) (length maxima) x.terms x.constant (Some (Larger (length_tree a) (length_tree b))) u (u +ℤ items_value s [] x)
-      (each_exact (2 ^ 62) room s [] [] (λ v l. absurd (omega (arith, l))) (length maxima) x.terms) (ordered-terms x o).1 (sym (scoped-items (length maxima) 0 x) ∙ p.0) top prints).1
+      (from_exact (2 ^ 62) room s [] [] (λ v l. absurd (omega (arith, l))) (length maxima) x.terms x.constant (Some (Larger (length_tree a) (length_tree b))) u
+      (u +ℤ items_value s [] x)
+      (each_exact (2 ^ 62) room s [] [] (λ v l. absurd (omega (arith, l))) (length maxima) x.terms) (ordered-terms x o).1
+      (sym (scoped-items (length maxima) 0 x) ∙ p.0) top prints).1
     where
       larger_left : (m n k : ℕ) → k + max m n ≤ 2 ^ 62 → m ≤ 2 ^ 62
       larger_left m n k h = grind arith

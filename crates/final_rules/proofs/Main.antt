@@ -1,5 +1,6 @@
 -- An accepted module stays within bounds.
-use Rattle.std.proofs.Common.{◌≡◌, ℕ, zero, suc, ◌+◌, ◌≤◌, nat_le, List, [], ◌∷◌, ◌++◌, length, map, refl, sym, ap, ◌∙◌, subst, arith, Bool, true, false, ◌&&◌, Some, None, if◌then◌else◌, Ok, Err}
+use Rattle.std.proofs.Common.{◌≡◌, ℕ, zero, suc, ◌+◌, ◌≤◌, nat_le, List, [], ◌∷◌, ◌++◌, length, map, refl, sym, ap, ◌∙◌, subst, arith, Bool, true, false, ◌&&◌}
+use Rattle.std.proofs.Common.{Some, None, if◌then◌else◌, Ok, Err}
 use Rattle.std.specs.Prelude.{All, IsOk, ℤ, pos, negsuc, ◌≤ℤ◌}
 use Rattle.std.proofs.lemmas.Bool.{and_parts}
 use Rattle.std.proofs.lemmas.Int.{ints}
@@ -36,7 +37,9 @@ use Rattle.final_rules.specs.Owed.{Exactly, Numbered}
 use Rattle.final_rules.specs.Places.{shapes}
 use Rattle.final_rules.specs.Printed.{Printed, at_least_one, largest_index, length_printed, printed_of}
 use Rattle.affine_index.specs.Magnitude.{magnitude}
-use Rattle.final_rules.specs.Rules.{Expression, Index, Scratch, Verdict, or_else, node_fault, form_fault, input_site, output_spot, output_extents, output_place, outputs_claims, module_goals, line_fault, goal_fault, maxima, large_fault, expression_small, length_small, length_magnitude, length_normal, nowhere_yet, any_let, printed, scratch_printed, input_lengths, output_lengths, body_printed, mark_fault}
+use Rattle.final_rules.specs.Rules.{Expression, Index, Scratch, Verdict, or_else, node_fault, form_fault, input_site, output_spot, output_extents, output_place}
+use Rattle.final_rules.specs.Rules.{outputs_claims, module_goals, line_fault, goal_fault, maxima, large_fault, expression_small, length_small, length_magnitude}
+use Rattle.final_rules.specs.Rules.{length_normal, nowhere_yet, any_let, printed, scratch_printed, input_lengths, output_lengths, body_printed, mark_fault}
 use Rattle.final_rules.proofs.Accepted.{claims-hold, maxima-within, printed-hold, if_none, length-map, small_le}
 use Rattle.final_rules.proofs.AptLaws.{apt}
 use Rattle.final_rules.proofs.PlaceValues.{Counts, length-value}
@@ -64,7 +67,8 @@ node_none : (j : ℕ) (o : Node) → node_fault j o ≡ None → o ≡ None
 node_none j None h = refl
 node_none j (Some ks) h = absurd (cc)
 
-split-printed : (m : Module) (xs ys : List Printed) (zs : List Expression) → large_fault (maxima m) 1 (map Index (xs ++ ys) ++ zs) ≡ None → large_fault (maxima m) 1 (map Index xs ++ (map Index ys ++ zs)) ≡ None
+split-printed : (m : Module) (xs ys : List Printed) (zs : List Expression) → large_fault (maxima m) 1 (map Index (xs ++ ys) ++ zs) ≡ None
+    → large_fault (maxima m) 1 (map Index xs ++ (map Index ys ++ zs)) ≡ None
 split-printed m xs ys zs h = subst (λ (es : List Expression). large_fault (maxima m) 1 es ≡ None) (again xs) h
   where
     again : (xs : List Printed) → map Index (xs ++ ys) ++ zs ≡ map Index xs ++ (map Index ys ++ zs)
@@ -74,7 +78,8 @@ split-printed m xs ys zs h = subst (λ (es : List Expression). large_fault (maxi
 -- what follows in the order of the text
 rest_small : (maxima : List ℕ) (k : ℕ) (xs ys : List Expression) → large_fault maxima k (xs ++ ys) ≡ None → (j : ℕ) × (large_fault maxima j ys ≡ None)
 rest_small maxima k [] ys h = (k, h)
-rest_small maxima k (x ∷ xs) ys h = rest_small maxima (k + 1) xs ys (if_none (expression_small maxima x) (large_fault maxima (k + 1) (xs ++ ys)) (IndexTooLarge k) h).1
+rest_small maxima k (x ∷ xs) ys h = rest_small maxima (k + 1) xs ys (if_none (expression_small maxima x) (large_fault maxima (k + 1) (xs ++ ys))
+    (IndexTooLarge k) h).1
 
 least : (z : ℤ) → at_least_zero z ≡ true → pos 0 ≤ℤ z
 least (pos n) h = omega (arith, ints)
@@ -111,7 +116,8 @@ module _ (m : Module) (s : List ℕ) (a : Allowed m s) (sound : IsSound m) where
   goal_parts : NoneBelow sizes s (input_goals m.inputs) × NoneBelow sizes s (outputs_goals m.outputs (input_shapes m))
   goal_parts = every_parts (Zeroth sizes s) (input_goals m.inputs) (outputs_goals m.outputs (input_shapes m)) goals
 
-  good_sites : (ds : List InputDecl) → inputs_scoped sizes ds ≡ true → NoneBelow sizes s (input_goals ds) → Every (λ x. GoodShape sizes s x.extents × Good sizes s x.offset) (map input_site ds)
+  good_sites : (ds : List InputDecl) → inputs_scoped sizes ds ≡ true → NoneBelow sizes s (input_goals ds)
+      → Every (λ x. GoodShape sizes s x.extents × Good sizes s x.offset) (map input_site ds)
   good_sites [] c h = tt
   good_sites (d ∷ ds) c h =
       let p = and_parts (extents_scoped sizes d.extents) (inputs_scoped sizes ds) c in
@@ -124,7 +130,13 @@ module _ (m : Module) (s : List ℕ) (a : Allowed m s) (sound : IsSound m) where
 
   sites-at : (ds : List InputDecl) → inputs_scoped sizes ds ≡ true → Every (SiteAt sizes) (map input_site ds)
   sites-at [] c = tt
-  sites-at (d ∷ ds) c = let p = and_parts (extents_scoped sizes d.extents) (inputs_scoped sizes ds) c in ((extents-at d.extents p.0, literal-at sizes 0 (pos 0)), sites-at ds p.1)
+  sites-at (d ∷ ds) c = let p = and_parts (extents_scoped sizes d.extents) (inputs_scoped sizes ds) c in (
+    (
+      extents-at d.extents p.0,
+      literal-at sizes 0 (pos 0),
+    ),
+    sites-at ds p.1,
+  )
 
   shapes-at : (ds : List InputDecl) → inputs_scoped sizes ds ≡ true → Every (All0 sizes) (map (λ d. d.extents) ds)
   shapes-at [] c = tt
@@ -139,7 +151,16 @@ module _ (m : Module) (s : List ℕ) (a : Allowed m s) (sound : IsSound m) where
   output_at o c = shape-eon sizes o.term 0 (length m.inputs) (input_shapes m) c (shapes-at m.inputs scoped_parts.1)
 
   scoping : (o : OutputDecl) → term_scoped sizes o.term 0 (length m.inputs) ≡ true → Scoping sizes (output_place m o) 0
-  scoping o c = record { depth = refl; sites = sites-at m.inputs scoped_parts.1; target = (output_at o c, literal-at sizes 0 (pos 0)); around = tt; free = literal-at sizes 0 (pos 0) }
+  scoping o c = record {
+    depth = refl;
+    sites = sites-at m.inputs scoped_parts.1;
+    target = (
+      output_at o c,
+      literal-at sizes 0 (pos 0),
+    );
+    around = tt;
+    free = literal-at sizes 0 (pos 0);
+  }
 
   abbrev InScope : Printed → Type 0
   InScope i = (x : Items) → i.form ≡ Ok x → items_scoped sizes (length i.scope) x ≡ true
@@ -153,17 +174,27 @@ module _ (m : Module) (s : List ℕ) (a : Allowed m s) (sound : IsSound m) where
   body-at : (os : List OutputDecl) → outputs_scoped sizes (length m.inputs) os ≡ true → Every InScope (body_printed m os)
   body-at [] c = tt
   body-at (o ∷ os) c =
-      let p = and_parts (term_scoped sizes o.term 0 (length m.inputs)) (outputs_scoped sizes (length m.inputs) os) c in
-      (plain-at (literal_form (pos 0)) (literal-at sizes 0 (pos 0)), (words-at (output_extents m o) (output_at o p.0), every-append sizes InScope (printed_of o.term (output_place m o)) (body_printed m os) (printed-at sizes o.term (output_place m o) 0 (length m.inputs) p.0 (scoping o p.0)) (body-at os p.1)))
+      let p = and_parts (term_scoped sizes o.term 0 (length m.inputs)) (outputs_scoped sizes (length m.inputs) os) c in (
+        plain-at (literal_form (pos 0)) (literal-at sizes 0 (pos 0)),
+        (
+          words-at (output_extents m o) (output_at o p.0),
+          every-append sizes InScope (printed_of o.term (output_place m o)) (body_printed m os) (printed-at sizes o.term (output_place m o) 0
+              (length m.inputs) p.0 (scoping o p.0)) (body-at os p.1),
+        ),
+      )
 
   inputs-at : (ds : List InputDecl) → inputs_scoped sizes ds ≡ true → Every InScope (map (λ d. length_printed d.extents nowhere_yet) ds)
   inputs-at [] c = tt
-  inputs-at (d ∷ ds) c = let p = and_parts (extents_scoped sizes d.extents) (inputs_scoped sizes ds) c in (words-at d.extents (extents-at d.extents p.0), inputs-at ds p.1)
+  inputs-at (d ∷ ds) c = let p = and_parts (extents_scoped sizes d.extents) (inputs_scoped sizes ds) c in (
+    words-at d.extents (extents-at d.extents p.0),
+    inputs-at ds p.1,
+  )
 
   here : (o : OutputDecl) → Here s (maxima m) (output_place m o) [] []
   here o = record { holds = tt; kept = tt; closed = tt; turns = λ v l. absurd (omega (arith, l)); depth = refl; within = λ k l. absurd (omega (arith, l)) }
 
-  at-start : (i : Printed) (raw : Items) (k : ℕ) → ((x : Items) → i.form ≡ Ok x → raw ≡ x) → PrintedHolds s (maxima m) i → i.scope ≡ [] → items_value s [] raw ≡ pos k → Numbered s raw k [] []
+  at-start : (i : Printed) (raw : Items) (k : ℕ) → ((x : Items) → i.form ≡ Ok x → raw ≡ x) → PrintedHolds s (maxima m) i → i.scope ≡ []
+      → items_value s [] raw ≡ pos k → Numbered s raw k [] []
   at-start i raw k same h z v =
       let e : Exactly s h.0 [] [] = h.2 [] [] (λ v l. absurd (omega (arith, l)))
       (λ k l. absurd (omega (arith, l, ap length (ap (λ ns. map (λ n. at_least_one (magnitude (maxima m) [] n)) ns) z)))) (ap length z) in
@@ -177,11 +208,17 @@ module _ (m : Module) (s : List ℕ) (a : Allowed m s) (sound : IsSound m) where
       positive (pos n) h = refl
       positive (negsuc n) h = absurd (omega (arith, ints, h))
 
-  inputs-fit : (ds : List InputDecl) → Every (GoodShape sizes s) (map (λ d. d.extents) ds) → Every (PrintedHolds s (maxima m)) (map (λ d. length_printed d.extents nowhere_yet) ds) → InputsFit s ds
+  inputs-fit : (ds : List InputDecl) → Every (GoodShape sizes s) (map (λ d. d.extents) ds)
+      → Every (PrintedHolds s (maxima m)) (map (λ d. length_printed d.extents nowhere_yet) ds) → InputsFit s ds
   inputs-fit [] g h = tt
-  inputs-fit (d ∷ ds) g h = (at-start (length_printed d.extents nowhere_yet) (length_form d.extents) (word_count (extents_at d.extents s)) (words-raw d.extents) h.0 refl (length-value s [] d.extents (counts d.extents g.0)), inputs-fit ds g.1 h.1)
+  inputs-fit (d ∷ ds) g h = (
+    at-start (length_printed d.extents nowhere_yet) (length_form d.extents) (word_count (extents_at d.extents s))
+        (words-raw d.extents) h.0 refl (length-value s [] d.extents (counts d.extents g.0)),
+    inputs-fit ds g.1 h.1,
+  )
 
-  outputs-fit : (j : ℕ) (os : List OutputDecl) → outputs_scoped sizes (length m.inputs) os ≡ true → Every (λ o. IsOk (shape_of o.term (input_shapes m))) os → NoneBelow sizes s (outputs_goals os (input_shapes m)) → FormsNormal os → form_fault j os (input_shapes m) ≡ None
+  outputs-fit : (j : ℕ) (os : List OutputDecl) → outputs_scoped sizes (length m.inputs) os ≡ true → Every (λ o. IsOk (shape_of o.term (input_shapes m))) os
+      → NoneBelow sizes s (outputs_goals os (input_shapes m)) → FormsNormal os → form_fault j os (input_shapes m) ≡ None
       → Every (ClaimHolds s (maxima m)) (outputs_claims os (input_shapes m)) → Every (PrintedHolds s (maxima m)) (body_printed m os) → OutputsFit m s os
   outputs-fit j [] c k g n f h q = tt
   outputs-fit j (o ∷ os) c k g n f h q =
@@ -193,18 +230,25 @@ module _ (m : Module) (s : List ℕ) (a : Allowed m s) (sound : IsSound m) where
       let qs = every_parts (PrintedHolds s (maxima m)) (printed_of o.term (output_place m o)) (body_printed m os) q.1.1 in
       let p = output_place m o in
       let is : input_shapes m ≡ shapes p = sym (shapes-are m.inputs) in
-      let good : GoodShape sizes s (output_extents m o) = subst (GoodShape sizes s) (sym (ap extents_or_none ok.1)) (shape-good sizes s o.term 0 (length m.inputs) (input_shapes m) ok.0 cs.0 ok.1 gs.0 (good_inputs m.inputs scoped_parts.1 goal_parts.0)) in
-      let aptly = apt sizes s (maxima m) (maxima-within m s a sound.scoped) (sym (length-map (λ d. at_least_one d.high) m.sizes)) o.term p 0 (length m.inputs) ok.0 cs.0 n.0
+      let good : GoodShape sizes s (output_extents m o) = subst (GoodShape sizes s) (sym (ap extents_or_none ok.1)) (shape-good sizes s o.term 0
+      (length m.inputs) (input_shapes m) ok.0 cs.0 ok.1 gs.0 (good_inputs m.inputs scoped_parts.1 goal_parts.0)) in
+      let aptly = apt sizes s (maxima m) (maxima-within m s a sound.scoped) (sym (length-map (λ d. at_least_one d.high) m.sizes)) o.term p 0
+      (length m.inputs) ok.0 cs.0 n.0
       (subst (λ (ts : List Extents). shape_of o.term ts ≡ Ok ok.0) is ok.1) (subst (λ (ts : List Extents). NoneBelow sizes s (term_goals o.term ts)) is gs.0)
-      (subst (λ (ts : List Extents). outside o.term ts ≡ None) is (node_none j (outside o.term (input_shapes m)) fs.0)) (good_sites m.inputs scoped_parts.1 goal_parts.0, good-literal sizes s 0) in (
-        at-start (length_printed (output_extents m o) p) (length_form (output_extents m o)) (word_count (extents_at (output_extents m o) s)) (words-raw (output_extents m o)) q.1.0 refl (length-value s [] (output_extents m o) (counts (output_extents m o) good)),
-        fits s (maxima m) o.term p (length ok.0) [] [] aptly tt (subst (λ (ts : List Extents). Every (ClaimHolds s (maxima m)) (claims_of o.term output_spot ts)) is hs.0) qs.0 (here o),
+      (subst (λ (ts : List Extents). outside o.term ts ≡ None) is (node_none j (outside o.term (input_shapes m)) fs.0))
+      (good_sites m.inputs scoped_parts.1 goal_parts.0, good-literal sizes s 0) in (
+        at-start (length_printed (output_extents m o) p) (length_form (output_extents m o)) (word_count (extents_at (output_extents m o) s))
+            (words-raw (output_extents m o)) q.1.0 refl (length-value s [] (output_extents m o) (counts (output_extents m o) good)),
+        fits s (maxima m) o.term p (length ok.0) [] [] aptly tt (subst (λ (ts : List Extents). Every (ClaimHolds s (maxima m))
+            (claims_of o.term output_spot ts)) is hs.0) qs.0 (here o),
         outputs-fit (j + 1) os cs.1 k.1 gs.1 n.1 fs.1 hs.1 qs.1,
       )
 
-  scratch-fits : (w : Bool) (k : ℕ) (xs : List Expression) → large_fault (maxima m) k ((if w then Scratch (module_needed m) ∷ [] else []) ++ xs) ≡ None → ScratchFits m s w
+  scratch-fits : (w : Bool) (k : ℕ) (xs : List Expression) → large_fault (maxima m) k ((if w then Scratch (module_needed m) ∷ [] else []) ++ xs) ≡ None
+      → ScratchFits m s w
   scratch-fits false k xs h = tt
-  scratch-fits true k xs h = by (module_needed m) refl (if_none (length_small (maxima m) (module_needed m)) (large_fault (maxima m) (k + 1) xs) (IndexTooLarge k) h).0
+  scratch-fits true k xs h = by (module_needed m) refl (if_none (length_small (maxima m) (module_needed m)) (large_fault (maxima m) (k + 1) xs)
+      (IndexTooLarge k) h).0
     where
       by : (o : Limited Length) → module_needed m ≡ o → length_small (maxima m) o ≡ true → ScratchFits m s true
       by (Err f) q e = absurd (cc)
@@ -212,7 +256,8 @@ module _ (m : Module) (s : List ℕ) (a : Allowed m s) (sound : IsSound m) where
           let p = and_parts (length_normal l) (nat_le (length_magnitude (maxima m) l) largest_index) e in
           let le = small_le (length_magnitude (maxima m) l) largest_index p.1 in
           let ws = maxima-within m s a sound.scoped in
-          let at : length_scoped (length (maxima m)) l ≡ true = subst (λ (k : ℕ). length_scoped k l ≡ true) (sym (length-map (λ d. at_least_one d.high) m.sizes))
+          let at : length_scoped (length (maxima m)) l ≡ true = subst (λ (k : ℕ). length_scoped k l ≡ true)
+          (sym (length-map (λ d. at_least_one d.high) m.sizes))
           (module-at sizes m l scoped_parts.2 (shapes-at m.inputs scoped_parts.1) q) in
           let value : length_value s l ≡ pos (module_need m s) = needed_is m l sound q s a in
           let most : unsigned_abs (length_value s l) ≤ largest_index = omega (arith, length-most s (maxima m) ws l at, le) in
@@ -227,13 +272,16 @@ accepted-stays-within m finals marks sound normal h s a =
     let c = scoped_parts m s a sound in
     let body = body_printed m m.outputs in
     let claims = claims-hold m s a sound.scoped finals 1 (outputs_claims m.outputs (input_shapes m)) e3.0 in
-    let ins = printed-hold m s a sound.scoped 1 (input_lengths m) (map Index (output_lengths m) ++ (scratch_printed m ++ map Index body)) (inputs-at m s a sound m.inputs c.1)
+    let ins = printed-hold m s a sound.scoped 1 (input_lengths m) (map Index (output_lengths m) ++ (scratch_printed m ++ map Index body))
+    (inputs-at m s a sound m.inputs c.1)
     (split-printed m (input_lengths m) (output_lengths m) (scratch_printed m ++ map Index body) e4.0) in
     let r1 = rest_small (maxima m) 1 (map Index (input_lengths m ++ output_lengths m)) (scratch_printed m ++ map Index body) e4.0 in
     let r2 = rest_small (maxima m) r1.0 (scratch_printed m) (map Index body) r1.1 in
-    let out = printed-hold m s a sound.scoped r2.0 body [] (body-at m s a sound m.outputs c.2) (subst (λ (es : List Expression). large_fault (maxima m) r2.0 es ≡ None) (sym (append-nil (map Index body))) r2.1) in
+    let out = printed-hold m s a sound.scoped r2.0 body [] (body-at m s a sound m.outputs c.2) (subst (λ (es : List Expression). large_fault (maxima m) r2.0 es
+    ≡ None) (sym (append-nil (map Index body))) r2.1) in
     record {
       scratch = scratch-fits m s a sound (any_let m.outputs) r1.0 (map Index body) r1.1;
       inputs = inputs-fit m s a sound m.inputs (good_inputs m s a sound m.inputs c.1 (goal_parts m s a sound).0) ins;
-      outputs = outputs-fit m s a sound 0 m.outputs c.2 (every-of (λ o. IsOk (shape_of o.term (input_shapes m))) m.outputs sound.shaped) (goal_parts m s a sound).1 normal e1.0 claims out;
+      outputs = outputs-fit m s a sound 0 m.outputs c.2 (every-of (λ o. IsOk (shape_of o.term (input_shapes m))) m.outputs sound.shaped)
+          (goal_parts m s a sound).1 normal e1.0 claims out;
     }

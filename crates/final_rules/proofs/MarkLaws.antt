@@ -10,7 +10,8 @@ use Rattle.term_tree.specs.Syntax.{index, gen, sum, guard, let_in, add, sub, mul
 use Rattle.std.specs.Prelude.{length}
 use Rattle.final_rules.specs.Accepted.{AcceptedMarksFit, MarksFit}
 use Rattle.final_rules.specs.declared.fault.FinalFault.TheVariants.{LetInParallel, NestedParallel}
-use Rattle.final_rules.specs.Rules.{any_nested, form_fault, gen_body, goal_fault, has_let, large_fault, line_fault, mark_fault, mark_fault_at, marked_part, maxima, module_goals, printed}
+use Rattle.final_rules.specs.Rules.{any_nested, form_fault, gen_body, goal_fault, has_let, large_fault, line_fault, mark_fault, mark_fault_at, marked_part}
+use Rattle.final_rules.specs.Rules.{maxima, module_goals, printed}
 use Rattle.final_rules.proofs.Main.{or_none}
 
 both_false : (p : Path) (a b : Bool) → (if a then Some (LetInParallel p) else (if b then Some (NestedParallel p) else None)) ≡ None → (a ≡ false) × (b ≡ false)
@@ -40,11 +41,13 @@ body_of (trunc_r n d) e h = absurd (cc)
 body_of (pad_l n d) e h = absurd (cc)
 body_of (pad_r n d) e h = absurd (cc)
 
-gen_at : (p : Path) (w : Bool) (o : Option Term) → mark_fault_at p w (option_and_then gen_body o) ≡ None → (n : Items) × (e : Term) × (o ≡ Some (gen n e)) × (has_let e ≡ false) × (w ≡ false)
+gen_at : (p : Path) (w : Bool) (o : Option Term) → mark_fault_at p w (option_and_then gen_body o) ≡ None
+    → (n : Items) × (e : Term) × (o ≡ Some (gen n e)) × (has_let e ≡ false) × (w ≡ false)
 gen_at p w None h = absurd (cc)
 gen_at p w (Some f) h = by (gen_body f) refl h
   where
-    by : (o : Option Term) → gen_body f ≡ o → mark_fault_at p w o ≡ None → (n : Items) × (e : Term) × (Some f ≡ Some (gen n e)) × (has_let e ≡ false) × (w ≡ false)
+    by : (o : Option Term) → gen_body f ≡ o → mark_fault_at p w o ≡ None → (n : Items) × (e : Term) × (Some f ≡ Some (gen n e)) × (has_let e ≡ false)
+        × (w ≡ false)
     by None q g = absurd (cc)
     by (Some e) q g =
         let b = both_false p (has_let e) w g in

@@ -1,5 +1,6 @@
 -- The length of the scratch region is over sizes alone.
-use Rattle.std.proofs.Common.{◌≡◌, ℕ, zero, suc, ◌+◌, ◌/◌, List, [], ◌∷◌, ◌++◌, length, take, drop, subst, Bool, true, false, ◌&&◌, nat_lt, nat_le, if◌then◌else◌, Ok}
+use Rattle.std.proofs.Common.{◌≡◌, ℕ, zero, suc, ◌+◌, ◌/◌, List, [], ◌∷◌, ◌++◌, length, take, drop, subst, Bool, true, false, ◌&&◌, nat_lt, nat_le}
+use Rattle.std.proofs.Common.{if◌then◌else◌, Ok}
 use Rattle.std.specs.Prelude.{pos}
 use Rattle.std.proofs.lemmas.Bool.{and_from, and_parts}
 use Rattle.affine_index.specs.declared.form.Items.{Items}
@@ -49,7 +50,8 @@ module _ (sizes : ℕ) where
   if-at false k l h g = g
 
   top-at : (x : Items) (k l : Length) → At sizes 0 x → LengthAt k → LengthAt l → LengthAt (topped x k l)
-  top-at x k l p h g = and_from (items_scoped sizes 0 x) (length_scoped sizes k && length_scoped sizes l) p (and_from (length_scoped sizes k) (length_scoped sizes l) h g)
+  top-at x k l p h g = and_from (items_scoped sizes 0 x) (length_scoped sizes k && length_scoped sizes l) p (and_from (length_scoped sizes k)
+      (length_scoped sizes l) h g)
 
   larger-at : (k l : Length) → LengthAt k → LengthAt l → LengthAt (larger_of k l)
   larger-at k l h g =
@@ -65,20 +67,24 @@ module _ (sizes : ℕ) where
       let q = first_ok (limited (sum_of x y)) (λ z. ok_length (topped z a b)) l e in
       let g = and_parts (items_scoped sizes 0 y) (length_scoped sizes a && length_scoped sizes b) h in
       let r = and_parts (length_scoped sizes a) (length_scoped sizes b) g.1 in
-      subst LengthAt (same_length-is (topped q.0 a b) l q.2) (top-at q.0 a b (subst (At sizes 0) (limited_is (sum_of x y) q.0 q.1) (sum-at sizes 0 x y p g.0)) r.0 r.1)
+      subst LengthAt (same_length-is (topped q.0 a b) l q.2) (top-at q.0 a b (subst (At sizes 0) (limited_is (sum_of x y) q.0 q.1)
+      (sum-at sizes 0 x y p g.0)) r.0 r.1)
 
   none-at : (l : Length) → ok_length no_words ≡ Ok l → LengthAt l
   none-at l e = subst LengthAt (same_length-is no_words l e) (literal-at sizes 0 (pos 0))
 
-  both-at : (x y : Limited Length) (l : Length) → ((k : Length) → x ≡ Ok k → LengthAt k) → ((k : Length) → y ≡ Ok k → LengthAt k) → both_needed x y ≡ Ok l → LengthAt l
+  both-at : (x y : Limited Length) (l : Length) → ((k : Length) → x ≡ Ok k → LengthAt k) → ((k : Length) → y ≡ Ok k → LengthAt k) → both_needed x y ≡ Ok l
+      → LengthAt l
   both-at x y l f g e =
       let p = first_ok x (λ p. and_then y (λ q. ok_length (larger_of p q))) l e in
       let q = first_ok y (λ q. ok_length (larger_of p.0 q)) l p.2 in
       subst LengthAt (same_length-is (larger_of p.0 q.0) l q.2) (larger-at p.0 q.0 (f p.0 p.1) (g q.0 q.1))
 
-  two-at : (a b : Term) (v t : ℕ) (ts : List Extents) (l : Length) → (term_scoped sizes a v t && term_scoped sizes b v t) ≡ true → ((k : Length) → term_scoped sizes a v t ≡ true → needed a ts ≡ Ok k → LengthAt k)
+  two-at : (a b : Term) (v t : ℕ) (ts : List Extents) (l : Length) → (term_scoped sizes a v t && term_scoped sizes b v t) ≡ true
+      → ((k : Length) → term_scoped sizes a v t ≡ true → needed a ts ≡ Ok k → LengthAt k)
       → ((k : Length) → term_scoped sizes b v t ≡ true → needed b ts ≡ Ok k → LengthAt k) → both_needed (needed a ts) (needed b ts) ≡ Ok l → LengthAt l
-  two-at a b v t ts l c f g e = let p = and_parts (term_scoped sizes a v t) (term_scoped sizes b v t) c in both-at (needed a ts) (needed b ts) l (λ k. f k p.0) (λ k. g k p.1) e
+  two-at a b v t ts l c f g e = let p = and_parts (term_scoped sizes a v t) (term_scoped sizes b v t) c in both-at (needed a ts) (needed b ts) l (λ k. f k p.0)
+      (λ k. g k p.1) e
 
   pub need-at : (e : Term) (v t : ℕ) (ts : List Extents) (l : Length) → term_scoped sizes e v t ≡ true → Every (All0 sizes) ts → needed e ts ≡ Ok l → LengthAt l
   need-at (Lit w) v t ts l c b h = none-at l h
@@ -102,7 +108,8 @@ module _ (sizes : ℕ) where
       let w = first_ok (words_form ns) (λ words. and_then (needed a ts) (λ p. and_then (needed e (ns ∷ ts)) (λ q. longer words (larger_of p q)))) l h in
       let f = first_ok (needed a ts) (λ p. and_then (needed e (ns ∷ ts)) (λ q. longer w.0 (larger_of p q))) l w.2 in
       let g = first_ok (needed e (ns ∷ ts)) (λ q. longer w.0 (larger_of f.0 q)) l f.2 in
-      longer-at w.0 (larger_of f.0 g.0) l (subst (At sizes 0) (words-raw ns w.0 w.1) (length-at sizes ns s)) (larger-at f.0 g.0 (need-at a v t ts f.0 p.0 b f.1) (need-at e v (t + 1) (ns ∷ ts) g.0 p.1 (s, b) g.1)) g.2
+      longer-at w.0 (larger_of f.0 g.0) l (subst (At sizes 0) (words-raw ns w.0 w.1) (length-at sizes ns s)) (larger-at f.0 g.0 (need-at a v t ts f.0 p.0 b f.1)
+      (need-at e v (t + 1) (ns ∷ ts) g.0 p.1 (s, b) g.1)) g.2
   need-at (add a e) v t ts l c b h = two-at a e v t ts l c (λ k d g. need-at a v t ts k d b g) (λ k d g. need-at e v t ts k d b g) h
   need-at (sub a e) v t ts l c b h = two-at a e v t ts l c (λ k d g. need-at a v t ts k d b g) (λ k d g. need-at e v t ts k d b g) h
   need-at (mul a e) v t ts l c b h = two-at a e v t ts l c (λ k d g. need-at a v t ts k d b g) (λ k d g. need-at e v t ts k d b g) h
@@ -131,14 +138,17 @@ module _ (sizes : ℕ) where
   more-at [] l h g = (g, tt)
   more-at (k ∷ ls) l h g = (h.0, more-at ls l h.1 g)
 
-  needs-at : (tensors : ℕ) (ts : List Extents) (os : List OutputDecl) (ls ks : List Length) → outputs_scoped sizes tensors os ≡ true → Every (All0 sizes) ts → Every LengthAt ls → needs_after ls os ts ≡ Ok ks → Every LengthAt ks
+  needs-at : (tensors : ℕ) (ts : List Extents) (os : List OutputDecl) (ls ks : List Length) → outputs_scoped sizes tensors os ≡ true → Every (All0 sizes) ts
+      → Every LengthAt ls → needs_after ls os ts ≡ Ok ks → Every LengthAt ks
   needs-at tensors ts [] ls ks c b h e = subst (Every LengthAt) (same_lengths ls ks e) h
   needs-at tensors ts (o ∷ os) ls ks c b h e =
       let p = and_parts (term_scoped sizes o.term 0 tensors) (outputs_scoped sizes tensors os) c in
       let q = first_ok (needed o.term ts) (λ l. needs_after (ls ++ l ∷ []) os ts) ks e in
       needs-at tensors ts os (ls ++ q.0 ∷ []) ks p.1 b (more-at ls q.0 h (need-at o.term 0 tensors ts q.0 p.0 b q.1)) q.2
 
-  pub module-at : (m : Module) (l : Length) → outputs_scoped sizes (length m.inputs) m.outputs ≡ true → Every (All0 sizes) (input_shapes m) → module_needed m ≡ Ok l → LengthAt l
+  pub module-at : (m : Module) (l : Length) → outputs_scoped sizes (length m.inputs) m.outputs ≡ true → Every (All0 sizes) (input_shapes m)
+      → module_needed m ≡ Ok l → LengthAt l
   module-at m l c b e =
       let q = first_ok (needs_after [] m.outputs (input_shapes m)) (λ ls. ok_length (largest_of ls)) l e in
-      subst LengthAt (same_length-is (largest_of q.0) l q.2) (halves-at (length q.0) q.0 (needs-at (length m.inputs) (input_shapes m) m.outputs [] q.0 c b tt q.1))
+      subst LengthAt (same_length-is (largest_of q.0) l q.2) (halves-at (length q.0) q.0 (needs-at (length m.inputs)
+      (input_shapes m) m.outputs [] q.0 c b tt q.1))

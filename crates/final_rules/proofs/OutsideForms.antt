@@ -3,9 +3,11 @@ use Rattle.std.proofs.Common.{◌≡◌, ℕ, List, ◌∷◌, ap, sym, ◌∙�
 use Rattle.affine_index.specs.declared.aff.Aff.{Aff}
 use Rattle.affine_index.specs.declared.cond.Cond.{Cond}
 use Rattle.term_tree.specs.declared.term.Term.{Term}
-use Rattle.term_tree.specs.declared.term.Term.TheVariants.{Index, Gen, Sum, Guard, Let, Add, Sub, Mul, Concat, Flatten, Split, Transpose, TruncL, TruncR, PadL, PadR}
+use Rattle.term_tree.specs.declared.term.Term.TheVariants.{Index, Gen, Sum, Guard, Let, Add, Sub, Mul, Concat, Flatten, Split, Transpose, TruncL, TruncR, PadL}
+use Rattle.term_tree.specs.declared.term.Term.TheVariants.{PadR}
 use Rattle.term_tree.specs.Shape.{Extents}
-use Rattle.term_tree.proofs.Forms.{Index-is, Gen-is, Sum-is, Guard-is, Let-is, Add-is, Sub-is, Mul-is, Concat-is, Flatten-is, Split-is, Transpose-is, TruncL-is, TruncR-is, PadL-is, PadR-is}
+use Rattle.term_tree.proofs.Forms.{Index-is, Gen-is, Sum-is, Guard-is, Let-is, Add-is, Sub-is, Mul-is, Concat-is, Flatten-is, Split-is, Transpose-is, TruncL-is}
+use Rattle.term_tree.proofs.Forms.{TruncR-is, PadL-is, PadR-is}
 use Rattle.final_rules.specs.Form.{first_node, in_child, no_extents, outside, outside_word, unless}
 use Rattle.final_rules.specs.Places.{extents_under}
 
@@ -58,4 +60,21 @@ module _ (ts : List Extents) where
   pub outside-PadR : (n : Aff) (e : Term) → outside (PadR n e) ts ≡ in_child 0 (outside e ts)
   outside-PadR n e = ap (λ f. outside f ts) (PadR-is n e)
 
-pub ruleset outside_forms = (outside-Index, outside-Gen, outside-Sum, outside-Guard, outside-Let, outside-Add, outside-Sub, outside-Mul, outside-Concat, outside-Flatten, outside-Split, outside-Transpose, outside-TruncL, outside-TruncR, outside-PadL, outside-PadR)
+pub ruleset outside_forms = (
+  outside-Index,
+  outside-Gen,
+  outside-Sum,
+  outside-Guard,
+  outside-Let,
+  outside-Add,
+  outside-Sub,
+  outside-Mul,
+  outside-Concat,
+  outside-Flatten,
+  outside-Split,
+  outside-Transpose,
+  outside-TruncL,
+  outside-TruncR,
+  outside-PadL,
+  outside-PadR,
+)

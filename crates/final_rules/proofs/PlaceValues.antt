@@ -42,7 +42,8 @@ module _ (s : List ℕ) where
   Counts [] y = Unit {0}
   Counts (n ∷ ns) y = (items_value s y n ≡ pos (extent n s)) × Counts ns y
 
-  row_from-value : (y : List ℕ) (x : Items) (a : ℕ) (ns : Extents) (xs : List Items) (ix : List ℕ) → items_value s y x ≡ pos a → Counts ns y → Values s xs y ix → Within (extents_at ns s) ix
+  row_from-value : (y : List ℕ) (x : Items) (a : ℕ) (ns : Extents) (xs : List Items) (ix : List ℕ) → items_value s y x ≡ pos a → Counts ns y → Values s xs y ix
+      → Within (extents_at ns s) ix
       → items_value s y (row_from x ns xs) ≡ pos (a * word_count (extents_at ns s) + row_order (extents_at ns s) ix)
   row_from-value y x a [] [] [] h c v w = let e : a ≡ a * 1 + 0 = omega arith in h ∙ ap pos e
   row_from-value y x a [] xs (i ∷ ix) h c v w = absurd w
@@ -54,11 +55,13 @@ module _ (s : List ℕ) where
       let p = word_count (extents_at ns s) in
       let q = row_order (extents_at ns s) ix in
       let now : items_value s y (sum_of (product_of x n) z) ≡ pos (a * d + i) =
-      sum_of-value s y (product_of x n) z ∙ ap (λ u. u +ℤ items_value s y z) (value-product s y x n ∙ (λ j. h j *ℤ c.0 j)) ∙ ap (λ u. (pos a *ℤ pos d) +ℤ u) v.0 in
+      sum_of-value s y (product_of x n) z ∙ ap (λ u. u +ℤ items_value s y z) (value-product s y x n ∙ (λ j. h j *ℤ c.0 j))
+      ∙ ap (λ u. (pos a *ℤ pos d) +ℤ u) v.0 in
       let e : (a * d + i) * p + q ≡ a * (d * p) + (i * p + q) = grind arith in
       row_from-value y (sum_of (product_of x n) z) (a * d + i) ns xs ix now c.1 v.1 w.1 ∙ ap pos e
 
-  pub row-value : (y : List ℕ) (ns : Extents) (xs : List Items) (ix : List ℕ) → Counts ns y → Values s xs y ix → Within (extents_at ns s) ix → items_value s y (row_form ns xs) ≡ pos (row_order (extents_at ns s) ix)
+  pub row-value : (y : List ℕ) (ns : Extents) (xs : List Items) (ix : List ℕ) → Counts ns y → Values s xs y ix → Within (extents_at ns s) ix
+      → items_value s y (row_form ns xs) ≡ pos (row_order (extents_at ns s) ix)
   row-value y [] xs ix c v w = value-literal s y (pos 0)
   row-value y (n ∷ ns) [] [] c v w = absurd w
   row-value y (n ∷ ns) [] (i ∷ ix) c v w = absurd v
@@ -67,13 +70,15 @@ module _ (s : List ℕ) where
 
   -- the place of a read: its tensor's offset, and the row-order place of its indices
   pub place-value : (y : List ℕ) (b : Site) (xs : List Items) (base : ℕ) → Counts b.extents y → items_value s y b.offset ≡ pos base → InRange xs b.extents y
-      → (ix : List ℕ) × Values s xs y ix × Within (extents_at b.extents s) ix × (items_value s y (place_form b xs) ≡ pos (base + row_order (extents_at b.extents s) ix))
+      → (ix : List ℕ) × Values s xs y ix × Within (extents_at b.extents s) ix
+      × (items_value s y (place_form b xs) ≡ pos (base + row_order (extents_at b.extents s) ix))
   place-value y b xs base c o h =
       let r = range-values xs b.extents y h in
       let e : row_order (extents_at b.extents s) r.0 + base ≡ base + row_order (extents_at b.extents s) r.0 = omega arith in
       (r.0, r.1, r.2, sum_of-value s y (row_form b.extents xs) b.offset ∙ (λ j. row-value y b.extents xs r.0 c r.1 r.2 j +ℤ o j) ∙ ap pos e)
 
-  length_from-value : (y : List ℕ) (x : Items) (a : ℕ) (ns : Extents) → items_value s y x ≡ pos a → Counts ns y → items_value s y (length_from x ns) ≡ pos (a * word_count (extents_at ns s))
+  length_from-value : (y : List ℕ) (x : Items) (a : ℕ) (ns : Extents) → items_value s y x ≡ pos a → Counts ns y
+      → items_value s y (length_from x ns) ≡ pos (a * word_count (extents_at ns s))
   length_from-value y x a [] h c = let e : a ≡ a * 1 = omega arith in h ∙ ap pos e
   length_from-value y x a (n ∷ ns) h c =
       let e : a * extent n s * word_count (extents_at ns s) ≡ a * (extent n s * word_count (extents_at ns s)) = grind arith in
@@ -98,7 +103,8 @@ joins : (b d : Bool) → and_also (verdict b) (verdict d) ≡ verdict (b && d)
 joins true d = refl
 joins false d = refl
 
-one-test : (s r y : List ℕ) (c : Cmp) → Exactly s (cmp_form c) r y → compared (test_of (length r) c).rel (reckon (test_of (length r) c).left s r) (reckon (test_of (length r) c).right s r) ≡ verdict (cmp_holds s y c)
+one-test : (s r y : List ℕ) (c : Cmp) → Exactly s (cmp_form c) r y
+    → compared (test_of (length r) c).rel (reckon (test_of (length r) c).left s r) (reckon (test_of (length r) c).right s r) ≡ verdict (cmp_holds s y c)
 one-test s r y (Ge x) e = ap (λ u. compared AtLeast u (Value (pos 0))) e.0 ∙ ap verdict (at-least-zero (items_value s y x))
 one-test s r y (Eq x) e = ap (λ u. compared Equal u (Value (pos 0))) e.0 ∙ ap verdict (equals-zero (items_value s y x))
 

@@ -31,7 +31,8 @@ plain-raw x z e = limited_is x z e
 
 one-raw : (x m y z : Items) → one_of_two x m y ≡ Ok z → sum_of (product_of x m) y ≡ z
 one-raw x m y z h =
-    let q = first_ok (limited (product_of x m)) (λ p. limited (sum_of p y)) z h in ap (λ p. sum_of p y) (limited_is (product_of x m) q.0 q.1) ∙ limited_is (sum_of q.0 y) z q.2
+    let q = first_ok (limited (product_of x m)) (λ p. limited (sum_of p y)) z h in ap (λ p. sum_of p y) (limited_is (product_of x m) q.0 q.1)
+    ∙ limited_is (sum_of q.0 y) z q.2
 
 from-raw : (x : Items) (ds ys : List Items) (z : Items) → row_place_from x ds ys ≡ Ok z → row_from x ds ys ≡ z
 from-raw x [] ys z h = same_answer x z (Ok x) refl h
@@ -49,7 +50,8 @@ behind-raw offset l x z t h =
     let q = first_ok l (λ y. limited (sum_of y offset)) z h in ap (λ y. sum_of y offset) (t q.0 q.1) ∙ limited_is (sum_of q.0 offset) z q.2
 
 pub read-raw : (d : Read) (p : Place) (z : Items) → (read_place d p).form ≡ Ok z → read_form d p ≡ z
-read-raw d p z h = let b = site_at p d.var in behind-raw b.offset (row_place b.extents d.indices) (row_form b.extents d.indices) z (row-raw b.extents d.indices) h
+read-raw d p z h = let b = site_at p d.var in behind-raw b.offset (row_place b.extents d.indices) (row_form b.extents d.indices) z
+    (row-raw b.extents d.indices) h
 
 pub store-raw : (p : Place) (z : Items) → (store_place p).form ≡ Ok z → store_form p ≡ z
 store-raw p z h =
@@ -61,7 +63,8 @@ store-raw p z h =
 from-words : (x : Items) (ns : Extents) (z : Items) → words_from x ns ≡ Ok z → length_from x ns ≡ z
 from-words x [] z h = same_answer x z (Ok x) refl h
 from-words x (n ∷ ns) z h =
-    let q = first_ok (limited (product_of x n)) (λ y. words_from y ns) z h in ap (λ y. length_from y ns) (limited_is (product_of x n) q.0 q.1) ∙ from-words q.0 ns z q.2
+    let q = first_ok (limited (product_of x n)) (λ y. words_from y ns) z h in ap (λ y. length_from y ns) (limited_is (product_of x n) q.0 q.1)
+    ∙ from-words q.0 ns z q.2
 
 pub words-raw : (ns : Extents) (z : Items) → words_form ns ≡ Ok z → length_form ns ≡ z
 words-raw [] z h = same_answer (literal_form (pos 1)) z (Ok (literal_form (pos 1))) refl h

@@ -1,5 +1,6 @@
 -- Extents of terms are over sizes alone, and none is negative, where no number is that must not be.
-use Rattle.std.proofs.Common.{◌≡◌, ℕ, zero, suc, ◌+◌, ◌-◌, ◌<◌, List, [], ◌∷◌, ◌++◌, length, get_or, refl, sym, ap, ◌∙◌, subst, arith, Bool, true, false, ◌&&◌, not, nat_lt, nat_le, ◌==◌, if◌then◌else◌, Ok, Err}
+use Rattle.std.proofs.Common.{◌≡◌, ℕ, zero, suc, ◌+◌, ◌-◌, ◌<◌, List, [], ◌∷◌, ◌++◌, length, get_or, refl, sym, ap, ◌∙◌, subst, arith, Bool, true, false, ◌&&◌}
+use Rattle.std.proofs.Common.{not, nat_lt, nat_le, ◌==◌, if◌then◌else◌, Ok, Err}
 use Rattle.std.specs.Prelude.{ℤ, pos, negsuc, ◌*ℤ◌, ◌≤ℤ◌}
 use Rattle.std.specs.Int.{int_div_euclid}
 use Rattle.std.proofs.lemmas.Bool.{and_parts}
@@ -18,14 +19,16 @@ use Rattle.term_tree.specs.declared.term.Term.{Term, Lit, TVar, WordOf}
 use Rattle.term_tree.specs.Syntax.{index, gen, sum, guard, let_in, add, sub, mul, concat, flatten, split, transpose, trunc_l, trunc_r, pad_l, pad_r}
 use Rattle.term_tree.specs.Goals.{extents_or_none, rest_after, term_goals}
 use Rattle.term_tree.specs.Scope.{cond_scoped, largest_tile, term_scoped}
-use Rattle.term_tree.specs.Shape.{Extents, Misfit, Shaped, here, each_fits, each_short, largest_rank, limited, of_concat, of_equal, of_first, of_two, of_words, same_forms, shape_of, tiles, with_child}
+use Rattle.term_tree.specs.Shape.{Extents, Misfit, Shaped, here, each_fits, each_short, largest_rank, limited, of_concat, of_equal, of_first, of_two, of_words}
+use Rattle.term_tree.specs.Shape.{same_forms, shape_of, tiles, with_child}
 use Rattle.term_tree.specs.declared.cause.Cause.{Cause}
 use Rattle.term_tree.specs.declared.cause.Cause.TheVariants.{RankMismatch, ShapesDiffer, RankTooLarge, CoefficientTooLarge, IndexTooLong}
 use Rattle.affine_index.proofs.FormScopes.{form-of, of-form, sum-form, difference-form, product-form, quotient-form}
 use Rattle.final_rules.proofs.Walk.{Every, every_parts}
 
 -- a child of a term with a shape has one
-pub child_ok : (child : ℕ) (r : Shaped) (rule : Extents → Shaped) (ms : Extents) → with_child child r rule ≡ Ok ms → (ns : Extents) × (r ≡ Ok ns) × (rule ns ≡ Ok ms)
+pub child_ok : (child : ℕ) (r : Shaped) (rule : Extents → Shaped) (ms : Extents) → with_child child r rule ≡ Ok ms
+    → (ns : Extents) × (r ≡ Ok ns) × (rule ns ≡ Ok ms)
 child_ok child (Ok ns) rule ms h = (ns, refl, h)
 child_ok child (Err m) rule ms h = absurd (cc)
 
@@ -47,7 +50,8 @@ if_err false w r ms h = err_ok h
 
 pub limited_ok : (ns ms : Extents) → limited ns ≡ Ok ms → ns ≡ ms
 limited_ok ns ms h =
-    let a = if_err (nat_le (length ns) largest_rank) RankTooLarge (if not (each_fits ns) then here CoefficientTooLarge else (if not (each_short ns) then here IndexTooLong else Ok ns)) ms h in
+    let a = if_err (nat_le (length ns) largest_rank) RankTooLarge (if not (each_fits ns) then here CoefficientTooLarge else
+    (if not (each_short ns) then here IndexTooLong else Ok ns)) ms h in
     let b = if_err (each_fits ns) CoefficientTooLarge (if not (each_short ns) then here IndexTooLong else Ok ns) ms a in
     ok_is (if_err (each_short ns) IndexTooLong (Ok ns) ms b)
 
@@ -62,11 +66,13 @@ words_ok [] (m ∷ ms) ks h = err_ok h
 words_ok (n ∷ ns) [] ks h = err_ok h
 words_ok (n ∷ ns) (m ∷ ms) ks h = err_ok h
 
-pub first_ok : (ns : Extents) (f : Items → Extents → Shaped) (ks : Extents) → of_first ns f ≡ Ok ks → (n : Items) × (rest : Extents) × (ns ≡ n ∷ rest) × (f n rest ≡ Ok ks)
+pub first_ok : (ns : Extents) (f : Items → Extents → Shaped) (ks : Extents) → of_first ns f ≡ Ok ks
+    → (n : Items) × (rest : Extents) × (ns ≡ n ∷ rest) × (f n rest ≡ Ok ks)
 first_ok [] f ks h = err_ok h
 first_ok (n ∷ ns) f ks h = (n, ns, refl, h)
 
-pub two_ok : (ns : Extents) (f : Items → Items → Extents → Shaped) (ks : Extents) → of_two ns f ≡ Ok ks → (n m : Items) × (rest : Extents) × (ns ≡ n ∷ m ∷ rest) × (f n m rest ≡ Ok ks)
+pub two_ok : (ns : Extents) (f : Items → Items → Extents → Shaped) (ks : Extents) → of_two ns f ≡ Ok ks
+    → (n m : Items) × (rest : Extents) × (ns ≡ n ∷ m ∷ rest) × (f n m rest ≡ Ok ks)
 two_ok [] f ks h = err_ok h
 two_ok (n ∷ []) f ks h = err_ok h
 two_ok (n ∷ m ∷ ns) f ks h = (n, m, ns, refl, h)
@@ -98,8 +104,16 @@ module _ (sizes : ℕ) (s : List ℕ) where
   NoneBelow = Every Zeroth
 
   pub good-sum : (a b : Items) → Good a → Good b → Good (sum_of a b)
-  good-sum a b h g =
-      (of-form sizes 0 (sum_of a b) (sum-form sizes 0 a b (form-of sizes 0 a h.0) (form-of sizes 0 b g.0)), omega (arith, ints, sum_of-value s [] a b, h.1, g.1))
+  good-sum a b h g = (
+    of-form sizes 0 (sum_of a b) (sum-form sizes 0 a b (form-of sizes 0 a h.0) (form-of sizes 0 b g.0)),
+    omega (
+      arith,
+      ints,
+      sum_of-value s [] a b,
+      h.1,
+      g.1,
+    ),
+  )
 
   times-least : (a b : ℤ) → pos 0 ≤ℤ a → pos 0 ≤ℤ b → pos 0 ≤ℤ (a *ℤ b)
   times-least (pos a) (pos b) h g = omega (arith, ints)
@@ -123,8 +137,10 @@ module _ (sizes : ℕ) (s : List ℕ) where
   div-least (negsuc n) k h = absurd (omega (arith, ints, h))
 
   good-quotient : (a : Items) (k : ℕ) → 0 < k → Good a → Good (quotient_of a k)
-  good-quotient a k l h =
-      (of-form sizes 0 (quotient_of a k) (quotient-form sizes 0 a k (form-of sizes 0 a h.0)), subst (λ z. pos 0 ≤ℤ z) (sym (value-quotient s [] a k l)) (div-least (items_value s [] a) k h.1))
+  good-quotient a k l h = (
+    of-form sizes 0 (quotient_of a k) (quotient-form sizes 0 a k (form-of sizes 0 a h.0)),
+    subst (λ z. pos 0 ≤ℤ z) (sym (value-quotient s [] a k l)) (div-least (items_value s [] a) k h.1),
+  )
 
   good-tiles : (k : ℕ) (n : Items) → 0 < k → Good n → Good (tiles k n)
   good-tiles k n l h = good-quotient (sum_of n (literal_form (pos (k - 1)))) k l (good-sum n (literal_form (pos (k - 1))) h (good-literal (k - 1)))
@@ -140,19 +156,23 @@ module _ (sizes : ℕ) (s : List ℕ) where
       lt : (k : ℕ) → nat_lt 0 k ≡ true → 0 < k
       lt k h = grind arith
 
-  fewer : (a : Items) (e : Term) (v t : ℕ) (ts : List Extents) (ns : Extents) → (items_scoped sizes 0 a && term_scoped sizes e v t) ≡ true → with_child 0 (shape_of e ts) (λ ns. of_first ns (λ n rest. limited (difference_of n a ∷ rest))) ≡ Ok ns
-      → NoneBelow (a ∷ (rest_after a (extents_or_none (shape_of e ts)) ++ term_goals e ts)) → ((ms : Extents) → term_scoped sizes e v t ≡ true → shape_of e ts ≡ Ok ms → GoodShape ms) → GoodShape ns
+  fewer : (a : Items) (e : Term) (v t : ℕ) (ts : List Extents) (ns : Extents) → (items_scoped sizes 0 a && term_scoped sizes e v t) ≡ true
+      → with_child 0 (shape_of e ts) (λ ns. of_first ns (λ n rest. limited (difference_of n a ∷ rest))) ≡ Ok ns
+      → NoneBelow (a ∷ (rest_after a (extents_or_none (shape_of e ts)) ++ term_goals e ts)) → ((ms : Extents) → term_scoped sizes e v t ≡ true
+      → shape_of e ts ≡ Ok ms → GoodShape ms) → GoodShape ns
   fewer a e v t ts ns c h g f =
       let p = child_ok 0 (shape_of e ts) (λ ns. of_first ns (λ n rest. limited (difference_of n a ∷ rest))) ns h in
       let q = first_ok p.0 (λ n rest. limited (difference_of n a ∷ rest)) ns p.2 in
       let cs = and_parts (items_scoped sizes 0 a) (term_scoped sizes e v t) c in
       let all = subst GoodShape q.2 (f p.0 cs.1 p.1) in
-      let left : NoneBelow (rest_after a (extents_or_none (shape_of e ts))) = (every_parts Zeroth (rest_after a (extents_or_none (shape_of e ts))) (term_goals e ts) g.1).0 in
+      let left : NoneBelow (rest_after a (extents_or_none (shape_of e ts))) = (every_parts Zeroth (rest_after a (extents_or_none (shape_of e ts)))
+      (term_goals e ts) g.1).0 in
       let is : extents_or_none (shape_of e ts) ≡ q.0 ∷ q.1 = ap extents_or_none p.1 ∙ q.2 in
       let low : NoneBelow (difference_of q.0 a ∷ []) = subst (λ ns. NoneBelow (rest_after a ns)) is left in
       subst GoodShape (limited_ok (difference_of q.0 a ∷ q.1) ns q.3) (good-difference q.0 a all.0.0 cs.0 low.0, all.1)
 
-  wider : (a : Items) (e : Term) (v t : ℕ) (ts : List Extents) (ns : Extents) → (items_scoped sizes 0 a && term_scoped sizes e v t) ≡ true → with_child 0 (shape_of e ts) (λ ns. of_first ns (λ n rest. limited (sum_of n a ∷ rest))) ≡ Ok ns
+  wider : (a : Items) (e : Term) (v t : ℕ) (ts : List Extents) (ns : Extents) → (items_scoped sizes 0 a && term_scoped sizes e v t) ≡ true
+      → with_child 0 (shape_of e ts) (λ ns. of_first ns (λ n rest. limited (sum_of n a ∷ rest))) ≡ Ok ns
       → NoneBelow (a ∷ term_goals e ts) → ((ms : Extents) → term_scoped sizes e v t ≡ true → shape_of e ts ≡ Ok ms → GoodShape ms) → GoodShape ns
   wider a e v t ts ns c h g f =
       let p = child_ok 0 (shape_of e ts) (λ ns. of_first ns (λ n rest. limited (sum_of n a ∷ rest))) ns h in
@@ -161,7 +181,8 @@ module _ (sizes : ℕ) (s : List ℕ) where
       let all = subst GoodShape q.2 (f p.0 cs.1 p.1) in
       subst GoodShape (limited_ok (sum_of q.0 a ∷ q.1) ns q.3) (good-sum q.0 a all.0 (cs.0, g.0), all.1)
 
-  pub shape-good : (e : Term) (v t : ℕ) (ts : List Extents) (ns : Extents) → term_scoped sizes e v t ≡ true → shape_of e ts ≡ Ok ns → NoneBelow (term_goals e ts) → Every GoodShape ts → GoodShape ns
+  pub shape-good : (e : Term) (v t : ℕ) (ts : List Extents) (ns : Extents) → term_scoped sizes e v t ≡ true → shape_of e ts ≡ Ok ns
+      → NoneBelow (term_goals e ts) → Every GoodShape ts → GoodShape ns
   shape-good (Lit w) v t ts ns c h g b = subst GoodShape (ok_is h) tt
   shape-good (TVar q) v t ts ns c h g b = subst GoodShape (limited_ok (get_or ts q []) ns h) (good-at ts q b)
   shape-good (WordOf x) v t ts ns c h g b = subst GoodShape (ok_is h) tt
@@ -185,15 +206,18 @@ module _ (sizes : ℕ) (s : List ℕ) where
       let cs = and_parts (term_scoped sizes a v t) (term_scoped sizes e v (t + 1)) c in
       let gs = every_parts Zeroth (term_goals a ts) (term_goals e (extents_or_none (shape_of a ts) ∷ ts)) g in
       let first = shape-good a v t ts p.0 cs.0 p.1 gs.0 b in
-      subst GoodShape (ok_is q.2) (shape-good e v (t + 1) (p.0 ∷ ts) q.0 cs.1 q.1 (subst (λ r. NoneBelow (term_goals e (extents_or_none r ∷ ts))) p.1 gs.1) (first, b))
+      subst GoodShape (ok_is q.2) (shape-good e v (t + 1) (p.0 ∷ ts) q.0 cs.1 q.1 (subst (λ r. NoneBelow (term_goals e (extents_or_none r ∷ ts))) p.1 gs.1)
+      (first, b))
   shape-good (add a e) v t ts ns c h g b =
       let p = child_ok 0 (shape_of a ts) (λ ns. with_child 1 (shape_of e ts) (λ ms. of_equal ns ms)) ns h in
       let q = child_ok 1 (shape_of e ts) (λ ms. of_equal p.0 ms) ns p.2 in
-      subst GoodShape (equal_ok p.0 q.0 ns q.2) (shape-good a v t ts p.0 (and_parts (term_scoped sizes a v t) (term_scoped sizes e v t) c).0 p.1 (every_parts Zeroth (term_goals a ts) (term_goals e ts) g).0 b)
+      subst GoodShape (equal_ok p.0 q.0 ns q.2) (shape-good a v t ts p.0 (and_parts (term_scoped sizes a v t) (term_scoped sizes e v t) c).0 p.1
+      (every_parts Zeroth (term_goals a ts) (term_goals e ts) g).0 b)
   shape-good (sub a e) v t ts ns c h g b =
       let p = child_ok 0 (shape_of a ts) (λ ns. with_child 1 (shape_of e ts) (λ ms. of_equal ns ms)) ns h in
       let q = child_ok 1 (shape_of e ts) (λ ms. of_equal p.0 ms) ns p.2 in
-      subst GoodShape (equal_ok p.0 q.0 ns q.2) (shape-good a v t ts p.0 (and_parts (term_scoped sizes a v t) (term_scoped sizes e v t) c).0 p.1 (every_parts Zeroth (term_goals a ts) (term_goals e ts) g).0 b)
+      subst GoodShape (equal_ok p.0 q.0 ns q.2) (shape-good a v t ts p.0 (and_parts (term_scoped sizes a v t) (term_scoped sizes e v t) c).0 p.1
+      (every_parts Zeroth (term_goals a ts) (term_goals e ts) g).0 b)
   shape-good (mul a e) v t ts ns c h g b =
       let p = child_ok 0 (shape_of a ts) (λ ns. with_child 1 (shape_of e ts) (λ ms. of_words ns ms)) ns h in
       let q = child_ok 1 (shape_of e ts) (λ ms. of_words p.0 ms) ns p.2 in
@@ -223,7 +247,9 @@ module _ (sizes : ℕ) (s : List ℕ) where
       let q = two_ok p.0 (λ n m rest. Ok (m ∷ n ∷ rest)) ns p.2 in
       let all = subst GoodShape q.3 (shape-good e v t ts p.0 c p.1 g b) in
       subst GoodShape (ok_is q.4) (all.1.0, (all.0, all.1.1))
-  shape-good (trunc_l a e) v t ts ns c h g b = fewer a e v t ts ns c h g (λ ns k d. shape-good e v t ts ns k d (every_parts Zeroth (rest_after a (extents_or_none (shape_of e ts))) (term_goals e ts) g.1).1 b)
-  shape-good (trunc_r a e) v t ts ns c h g b = fewer a e v t ts ns c h g (λ ns k d. shape-good e v t ts ns k d (every_parts Zeroth (rest_after a (extents_or_none (shape_of e ts))) (term_goals e ts) g.1).1 b)
+  shape-good (trunc_l a e) v t ts ns c h g b = fewer a e v t ts ns c h g (λ ns k d. shape-good e v t ts ns k d
+      (every_parts Zeroth (rest_after a (extents_or_none (shape_of e ts))) (term_goals e ts) g.1).1 b)
+  shape-good (trunc_r a e) v t ts ns c h g b = fewer a e v t ts ns c h g (λ ns k d. shape-good e v t ts ns k d
+      (every_parts Zeroth (rest_after a (extents_or_none (shape_of e ts))) (term_goals e ts) g.1).1 b)
   shape-good (pad_l a e) v t ts ns c h g b = wider a e v t ts ns c h g (λ ns k d. shape-good e v t ts ns k d g.1 b)
   shape-good (pad_r a e) v t ts ns c h g b = wider a e v t ts ns c h g (λ ns k d. shape-good e v t ts ns k d g.1 b)

@@ -1,5 +1,6 @@
 -- From goals that hold where their paths do, and printed forms that are exact, to what a term owes its loops.
-use Rattle.std.proofs.Common.{◌≡◌, ℕ, zero, suc, ◌+◌, ◌-◌, ◌<◌, ◌≤◌, List, [], ◌∷◌, ◌++◌, length, map, drop, get_or, refl, ap, sym, ◌∙◌, subst, arith, length-append, Bool, true, false, Option, Some, None, if◌then◌else◌, Ok}
+use Rattle.std.proofs.Common.{◌≡◌, ℕ, zero, suc, ◌+◌, ◌-◌, ◌<◌, ◌≤◌, List, [], ◌∷◌, ◌++◌, length, map, drop, get_or, refl, ap, sym, ◌∙◌, subst, arith}
+use Rattle.std.proofs.Common.{length-append, Bool, true, false, Option, Some, None, if◌then◌else◌, Ok}
 use Rattle.std.specs.Prelude.{ℤ, pos, negsuc, ◌+ℤ◌, ◌-ℤ◌, ◌*ℤ◌, ◌≤ℤ◌, slice_index}
 use Rattle.std.specs.Int.{int_div_euclid, int_rem_euclid}
 use Rattle.std.specs.Int.RustNames.{unsigned_abs}
@@ -41,14 +42,18 @@ use Rattle.final_rules.specs.declared.read.Read.{Read}
 use Rattle.final_rules.specs.Form.{read_under, one_deeper, each_shifted, adds_words}
 use Rattle.final_rules.specs.declared.spot.Around.{Around}
 use Rattle.final_rules.specs.declared.spot.Around.TheVariants.{Loop, Swapped, Joined, Tiled, Later, Without, Before}
-use Rattle.final_rules.specs.Places.{Place, Site, nowhere, site_at, shapes, shape_at, first_of, rest_of, length_form, in_gen, in_sum, in_guard, under_node, in_definition, in_body, on_right, in_flatten, in_truncr, frame_of, read_form, store_form}
-use Rattle.final_rules.specs.Goals.{Claim, one, below, index_claims, read_claim, read_claims, word_claims, drop_claim, kept_by, of_first_index, drops, drop_claims, leaf_claims, full_read_claims, full_read_claims_if, claims_at, read_claims_if}
+use Rattle.final_rules.specs.Places.{Place, Site, nowhere, site_at, shapes, shape_at, first_of, rest_of, length_form, in_gen, in_sum, in_guard, under_node}
+use Rattle.final_rules.specs.Places.{in_definition, in_body, on_right, in_flatten, in_truncr, frame_of, read_form, store_form}
+use Rattle.final_rules.specs.Goals.{Claim, one, below, index_claims, read_claim, read_claims, word_claims, drop_claim, kept_by, of_first_index, drops}
+use Rattle.final_rules.specs.Goals.{drop_claims, leaf_claims, full_read_claims, full_read_claims_if, claims_at, read_claims_if}
 use Rattle.final_rules.proofs.Raw.{Tracks, step_tracks, plain-raw, read-raw, store-raw, words-raw}
 use Rattle.reindexer.specs.Limited.{Limited, and_then}
 use Rattle.reindexer.specs.Places.{limited_frame}
 use Rattle.reindexer.proofs.IndexLaws.{first_ok, limited_is}
-use Rattle.final_rules.specs.Printed.{Printed, largest_index, read_place_if, length_printed, scope_onto, scope_of, plain, comparisons, read_place, store_place, word_printed, leaf_printed, full_read_printed, full_read_printed_if, printed_of, at_least_one, greatest}
-use Rattle.final_rules.specs.Owed.{either, Exactly, EachExactly, Numbered, ReadFits, ReadFitsIf, WordFits, StoreFits, LeafFits, FullReadFits, FullReadFitsIf, Fits}
+use Rattle.final_rules.specs.Printed.{Printed, largest_index, read_place_if, length_printed, scope_onto, scope_of, plain, comparisons, read_place, store_place}
+use Rattle.final_rules.specs.Printed.{word_printed, leaf_printed, full_read_printed, full_read_printed_if, printed_of, at_least_one, greatest}
+use Rattle.final_rules.specs.Owed.{either, Exactly, EachExactly, Numbered, ReadFits, ReadFitsIf, WordFits, StoreFits, LeafFits, FullReadFits, FullReadFitsIf}
+use Rattle.final_rules.specs.Owed.{Fits}
 
 -- a fact of each entry of a list
 abbrev pub Every : {A : Type 0} → (A → Type 0) → List A → Type 0
@@ -91,7 +96,7 @@ scope-bound [] n acc = refl
 scope-bound (Bound m ∷ ps) n acc = scope-bound ps n (m ∷ acc)
 scope-bound (Holds c ∷ ps) n acc = scope-bound ps n acc
 
-pub scope-holds : (ps : List PathFact) (c : Cond) (acc : Extents) → scope_onto acc (ps ++ Holds c ∷ []) ≡ scope_onto acc ps
+scope-holds : (ps : List PathFact) (c : Cond) (acc : Extents) → scope_onto acc (ps ++ Holds c ∷ []) ≡ scope_onto acc ps
 scope-holds [] c acc = refl
 scope-holds (Bound m ∷ ps) c acc = scope-holds ps c (m ∷ acc)
 scope-holds (Holds d ∷ ps) c acc = scope-holds ps c acc
@@ -132,11 +137,14 @@ module _ (s maxima : List ℕ) where
   closed-holds (Holds d ∷ ps) c h = closed-holds ps c h
 
   -- a turn of a loop is reached where the loop is
-  pub path-turn : (ps : List PathFact) (n : Items) (i : ℕ) (y : List ℕ) → PathClosed ps → PathHolds s y ps → pos (suc i) ≤ℤ items_value s (i ∷ y) n → PathHolds s (i ∷ y) (ps ++ Bound n ∷ [])
+  pub path-turn : (ps : List PathFact) (n : Items) (i : ℕ) (y : List ℕ) → PathClosed ps → PathHolds s y ps → pos (suc i) ≤ℤ items_value s (i ∷ y) n
+      → PathHolds s (i ∷ y) (ps ++ Bound n ∷ [])
   path-turn [] n i y k h l = (l, tt)
   path-turn (Bound m ∷ ps) n i y k h l =
-      let v : slice_index (i ∷ y) (binders (ps ++ Bound n ∷ [])) ≡ slice_index y (binders ps) = ap (slice_index (i ∷ y)) (binders-bound ps n) in
-      (subst (λ z. pos (suc z) ≤ℤ items_value s (i ∷ y) m) (sym v) (subst (λ z. pos (suc (slice_index y (binders ps))) ≤ℤ z) (k.0 y ∙ sym (k.0 (i ∷ y))) h.0), path-turn ps n i y k.1 h.1 l)
+      let v : slice_index (i ∷ y) (binders (ps ++ Bound n ∷ [])) ≡ slice_index y (binders ps) = ap (slice_index (i ∷ y)) (binders-bound ps n) in (
+        subst (λ z. pos (suc z) ≤ℤ items_value s (i ∷ y) m) (sym v) (subst (λ z. pos (suc (slice_index y (binders ps))) ≤ℤ z) (k.0 y ∙ sym (k.0 (i ∷ y))) h.0),
+        path-turn ps n i y k.1 h.1 l,
+      )
   path-turn (Holds c ∷ ps) n i y k h l =
       (ap (λ d. all_hold s (drop d (i ∷ y)) c.all) (binders-bound ps n) ∙ h.0, path-turn ps n i y k h.1 l)
 
@@ -155,7 +163,8 @@ module _ (s maxima : List ℕ) where
       (x : Items) × (i.form ≡ Ok x) × ((r y : List ℕ) → AreTurns r y → WithinMaxima y (greatest maxima i.scope) → length i.scope ≡ length r → Exactly s x r y)
 
   -- what a claim says of the form that it is taken to
-  claim_holds : (c : Claim) (raw : Items) → ((x : Items) → c.form ≡ Ok x → raw ≡ x) → ClaimHolds c → (y : List ℕ) → PathNormal c.path → PathHolds s y c.path → pos 0 ≤ℤ items_value s y raw
+  claim_holds : (c : Claim) (raw : Items) → ((x : Items) → c.form ≡ Ok x → raw ≡ x) → ClaimHolds c → (y : List ℕ) → PathNormal c.path → PathHolds s y c.path
+      → pos 0 ≤ℤ items_value s y raw
   claim_holds c raw same f y k h = subst (λ z. pos 0 ≤ℤ items_value s y z) (sym (same f.0 f.1)) (f.2 y k h)
 
   -- a place is reached
@@ -188,9 +197,11 @@ module _ (s maxima : List ℕ) where
   count-below i (negsuc n) h = absurd (omega (arith, h))
 
   -- the turns of one more loop
-  turn-here : (p : Place) (q : Place) (n : Items) (r y : List ℕ) (i : ℕ) → q.spot.path ≡ p.spot.path ++ Bound n ∷ [] → SizeForm n → i < extent n s → Here p r y → Here q (r ++ i ∷ []) (i ∷ y)
+  turn-here : (p : Place) (q : Place) (n : Items) (r y : List ℕ) (i : ℕ) → q.spot.path ≡ p.spot.path ++ Bound n ∷ [] → SizeForm n → i < extent n s → Here p r y
+      → Here q (r ++ i ∷ []) (i ∷ y)
   turn-here p q n r y i e f l h = record {
-    holds = subst (PathHolds s (i ∷ y)) (sym e) (path-turn p.spot.path n i y h.closed h.holds (subst (λ z. pos (suc i) ≤ℤ z) (sym (f.0.0 (i ∷ y))) (count-below i (items_value s [] n) l)));
+    holds = subst (PathHolds s (i ∷ y)) (sym e) (path-turn p.spot.path n i y h.closed h.holds (subst (λ z. pos (suc i) ≤ℤ z) (sym (f.0.0 (i ∷ y)))
+        (count-below i (items_value s [] n) l)));
     kept = subst PathNormal (sym e) (kept-bound p.spot.path n h.kept);
     closed = subst PathClosed (sym e) (closed-bound p.spot.path n f.0.0 h.closed);
     turns = turned;
@@ -231,10 +242,12 @@ module _ (s maxima : List ℕ) where
   }
 
   -- a printed form is exact here
-  exact-here : (p : Place) (r y : List ℕ) (i : Printed) (raw : Items) → i.scope ≡ scope_of p.spot.path → ((x : Items) → i.form ≡ Ok x → raw ≡ x) → PrintedHolds i → Here p r y → Exactly s raw r y
+  exact-here : (p : Place) (r y : List ℕ) (i : Printed) (raw : Items) → i.scope ≡ scope_of p.spot.path → ((x : Items) → i.form ≡ Ok x → raw ≡ x)
+      → PrintedHolds i → Here p r y → Exactly s raw r y
   exact-here p r y i raw e same f h =
       subst (λ z. Exactly s z r y) (sym (same f.0 f.1))
-      (f.2 r y h.turns (subst (λ ns. WithinMaxima y (greatest maxima ns)) (sym e) h.within) (ap length e ∙ scope-length p.spot.path [] ∙ (omega (arith, h.depth))))
+      (f.2 r y h.turns (subst (λ ns. WithinMaxima y (greatest maxima ns)) (sym e) h.within) (ap length e ∙ scope-length p.spot.path []
+      ∙ (omega (arith, h.depth))))
 
   -- so is a number
   pub numbered : (raw : Items) (k : ℕ) (r y : List ℕ) → Exactly s raw r y → items_value s y raw ≡ pos k → Numbered s raw k r y
@@ -246,7 +259,10 @@ module _ (s maxima : List ℕ) where
 
   exact-comparisons : (cs : List Cmp) (p : Place) (r y : List ℕ) → Every PrintedHolds (comparisons cs p) → Here p r y → EachExactly s cs r y
   exact-comparisons [] p r y f h = tt
-  exact-comparisons (c ∷ cs) p r y f h = (exact-here p r y (plain (cmp_form c) p) (cmp_form c) refl (plain-raw (cmp_form c)) f.0 h, exact-comparisons cs p r y f.1 h)
+  exact-comparisons (c ∷ cs) p r y f h = (
+    exact-here p r y (plain (cmp_form c) p) (cmp_form c) refl (plain-raw (cmp_form c)) f.0 h,
+    exact-comparisons cs p r y f.1 h,
+  )
 
   -- indices in range
 
@@ -254,20 +270,23 @@ module _ (s maxima : List ℕ) where
   difference-is y a b = omega (arith, ints, value-difference s y a b)
 
   below-is : (y : List ℕ) (n x : Items) → items_value s y (below n x) ≡ (items_value s y n -ℤ pos 1) -ℤ items_value s y x
-  below-is y n x = difference-is y (difference_of n one) x ∙ ap (λ z. z -ℤ items_value s y x) (difference-is y n one ∙ ap (λ z. items_value s y n -ℤ z) (items_value-is s y one))
+  below-is y n x = difference-is y (difference_of n one) x ∙ ap (λ z. z -ℤ items_value s y x) (difference-is y n one
+      ∙ ap (λ z. items_value s y n -ℤ z) (items_value-is s y one))
 
   in-count : (x n : ℤ) → pos 0 ≤ℤ x → pos 0 ≤ℤ ((n -ℤ pos 1) -ℤ x) → (i : ℕ) × (x ≡ pos i) × (i < count_of n)
   in-count (pos i) (pos n) h g = (i, refl, omega (arith, ints, g))
   in-count (pos i) (negsuc n) h g = absurd (omega (arith, ints, g))
   in-count (negsuc i) n h g = absurd (omega (arith, ints, h))
 
-  in_range : (path : List PathFact) (xs : List Items) (ns : Extents) (y : List ℕ) → length xs ≡ length ns → Every Closed ns → Every ClaimHolds (index_claims path xs ns) → PathNormal path → PathHolds s y path → InRange s xs ns y
+  in_range : (path : List PathFact) (xs : List Items) (ns : Extents) (y : List ℕ) → length xs ≡ length ns → Every Closed ns
+      → Every ClaimHolds (index_claims path xs ns) → PathNormal path → PathHolds s y path → InRange s xs ns y
   in_range path [] [] y e c f k h = tt
   in_range path [] (n ∷ ns) y e c f k h = absurd (omega (arith, e))
   in_range path (x ∷ xs) [] y e c f k h = absurd (omega (arith, e))
   in_range path (x ∷ xs) (n ∷ ns) y e c f k h =
       let low = claim_holds (read_claim path x) x (plain-raw x) f.0 y k h in
-      let high : pos 0 ≤ℤ ((items_value s [] n -ℤ pos 1) -ℤ items_value s y x) = subst (λ z. pos 0 ≤ℤ z) (below-is y n x ∙ ap (λ z. (z -ℤ pos 1) -ℤ items_value s y x) (c.0 y)) (claim_holds (read_claim path (below n x)) (below n x) (plain-raw (below n x)) f.1.0 y k h) in
+      let high : pos 0 ≤ℤ ((items_value s [] n -ℤ pos 1) -ℤ items_value s y x) = subst (λ z. pos 0 ≤ℤ z) (below-is y n x
+      ∙ ap (λ z. (z -ℤ pos 1) -ℤ items_value s y x) (c.0 y)) (claim_holds (read_claim path (below n x)) (below n x) (plain-raw (below n x)) f.1.0 y k h) in
       (in-count (items_value s y x) (items_value s [] n) low high, in_range path xs ns y (omega (arith, e)) c.1 f.1.1 k h)
 
   -- words
@@ -300,19 +319,28 @@ module _ (s maxima : List ℕ) where
   all-counts y [] h = tt
   all-counts y (n ∷ ns) h = (h.0.0 y ∙ h.0.1, all-counts y ns h.1)
 
-  read_fits : (d : Read) (p : Place) (r y : List ℕ) → ReadApt d 0 p → Every ClaimHolds (read_claims d p.spot.path (shapes p)) → PrintedHolds (read_place d p) → Here p r y → ReadFits s d p r y
+  read_fits : (d : Read) (p : Place) (r y : List ℕ) → ReadApt d 0 p → Every ClaimHolds (read_claims d p.spot.path (shapes p)) → PrintedHolds (read_place d p)
+      → Here p r y → ReadFits s d p r y
   read_fits d p r y a g f h =
       let b = site_at p d.var in
       let e : length d.indices ≡ length b.extents = omega (arith, a.0) in
-      let range = in_range p.spot.path d.indices b.extents y e (all-closed b.extents a.1) (subst (λ ns. Every ClaimHolds (index_claims p.spot.path d.indices ns)) (sym (site-shape p.sites d.var)) g) h.kept h.holds in
-      let v = place-value s y b d.indices (extent b.offset s) (all-counts y b.extents a.1) (a.2.0 y ∙ a.2.1) range in
-      (v.0, v.1, v.2, numbered (read_form d p) (extent b.offset s + row_order (extents_at b.extents s) v.0) r y (exact-here p r y (read_place d p) (read_form d p) refl (read-raw d p) f h) v.3)
+      let range = in_range p.spot.path d.indices b.extents y e (all-closed b.extents a.1)
+      (subst (λ ns. Every ClaimHolds (index_claims p.spot.path d.indices ns)) (sym (site-shape p.sites d.var)) g) h.kept h.holds in
+      let v = place-value s y b d.indices (extent b.offset s) (all-counts y b.extents a.1) (a.2.0 y ∙ a.2.1) range in (
+        v.0,
+        v.1,
+        v.2,
+        numbered (read_form d p) (extent b.offset s + row_order (extents_at b.extents s) v.0) r y (exact-here p r y (read_place d p)
+            (read_form d p) refl (read-raw d p) f h) v.3,
+      )
 
-  read_fits_if : (o : Option Read) (p : Place) (r y : List ℕ) → ReadAptIf o 0 p → Every ClaimHolds (read_claims_if o p.spot.path (shapes p)) → Every PrintedHolds (read_place_if o p) → Here p r y → ReadFitsIf s o p r y
+  read_fits_if : (o : Option Read) (p : Place) (r y : List ℕ) → ReadAptIf o 0 p → Every ClaimHolds (read_claims_if o p.spot.path (shapes p))
+      → Every PrintedHolds (read_place_if o p) → Here p r y → ReadFitsIf s o p r y
   read_fits_if None p r y a g f h = a
   read_fits_if (Some d) p r y a g f h = read_fits d p r y a g f.0 h
 
-  pub word_fits : (e : Term) (p : Place) (r y : List ℕ) → WordApt e p → Every ClaimHolds (word_claims e p.spot.path (shapes p)) → Every PrintedHolds (word_printed e p) → Here p r y → WordFits s e p r y
+  pub word_fits : (e : Term) (p : Place) (r y : List ℕ) → WordApt e p → Every ClaimHolds (word_claims e p.spot.path (shapes p))
+      → Every PrintedHolds (word_printed e p) → Here p r y → WordFits s e p r y
   word_fits (Lit w) p r y a g f h = tt
   word_fits (WordOf x) p r y a g f h = exact-here p r y (plain x p) x refl (plain-raw x) f.0 h
   word_fits (TVar q) p r y a g f h = read_fits_if (read_under (TVar q) []) p r y a g f h
@@ -378,17 +406,22 @@ module _ (s maxima : List ℕ) where
   remainder-nonneg y x k l h = subst (λ z. pos 0 ≤ℤ z) (sym (value-remainder s y x k l)) (rem-nonneg (items_value s y x) k h)
 
   less-is : (y : List ℕ) (x a : Items) → items_value s y (sum_of x (scaled (negsuc 0) a)) ≡ items_value s y (difference_of x a)
-  less-is y x a = sum_of-value s y x (scaled (negsuc 0) a) ∙ ap (λ z. items_value s y x +ℤ z) (value-scaled s y (negsuc 0) a) ∙ minus (items_value s y x) (items_value s y a) ∙ sym (difference-is y x a)
+  less-is y x a = sum_of-value s y x (scaled (negsuc 0) a) ∙ ap (λ z. items_value s y x +ℤ z) (value-scaled s y (negsuc 0) a)
+      ∙ minus (items_value s y x) (items_value s y a) ∙ sym (difference-is y x a)
     where
       minus : (a b : ℤ) → a +ℤ (negsuc 0 *ℤ b) ≡ a -ℤ b
       minus a b = omega (arith, ints)
 
   -- what a truncation claims of the first of these indices
-  drop-holds : (path : List PathFact) (y : List ℕ) (ls : Limited (List Items)) (x : Items) (xs : List Items) (f : Items → Items) → Tracks ls (x ∷ xs) → ClaimHolds (drop_claim path ls f) → PathNormal path → PathHolds s y path → NonNeg y (f x)
+  drop-holds : (path : List PathFact) (y : List ℕ) (ls : Limited (List Items)) (x : Items) (xs : List Items) (f : Items → Items) → Tracks ls (x ∷ xs)
+      → ClaimHolds (drop_claim path ls f) → PathNormal path → PathHolds s y path → NonNeg y (f x)
   drop-holds path y ls x xs f t g k h =
-      claim_holds (drop_claim path ls f) (f x) (λ v e. let q = first_ok ls (of_first_index f) v e in limited_is (f x) v (ap (of_first_index f) (t q.0 q.1) ∙ q.2)) g y k h
+      claim_holds (drop_claim path ls f) (f x) (λ v e. let q = first_ok ls (of_first_index f) v e in limited_is (f x) v (ap (of_first_index f) (t q.0 q.1)
+      ∙ q.2)) g y k h
 
-  pub none_dropped : (path : List PathFact) (y : List ℕ) → PathNormal path → PathHolds s y path → (fs : List Around) (ls : Limited (List Items)) (xs : List Items) → Tracks ls xs → Ready fs (length xs) → Every (NonNeg y) xs
+  pub none_dropped : (path : List PathFact) (y : List ℕ) → PathNormal path → PathHolds s y path
+      → (fs : List Around) (ls : Limited (List Items)) (xs : List Items)
+      → Tracks ls xs → Ready fs (length xs) → Every (NonNeg y) xs
       → Every ClaimHolds (drops path fs ls) → NoneDropped s y (map (frame_of (binders path)) fs) xs
   none_dropped path y k h [] ls xs t w n g = tt
   none_dropped path y k h (f ∷ fs) ls xs t w n g =
@@ -400,21 +433,32 @@ module _ (s maxima : List ℕ) where
       next f = and_then ls (limited_frame (frame_of (binders path) f))
 
       by : (f : Around) (xs : List Items) → Tracks ls xs → Ready (f ∷ fs) (length xs) → Every (NonNeg y) xs
-          → ((zs : List Items) → Tracks (next f) zs → Ready fs (length zs) → Every (NonNeg y) zs → Every ClaimHolds (drops path fs (next f)) → NoneDropped s y (map (frame_of (binders path)) fs) zs)
+          → ((zs : List Items) → Tracks (next f) zs → Ready fs (length zs) → Every (NonNeg y) zs → Every ClaimHolds (drops path fs (next f))
+          → NoneDropped s y (map (frame_of (binders path)) fs) zs)
           → Every ClaimHolds (drops path fs (next f)) → Every ClaimHolds (kept_by f path ls) → NoneDropped s y (map (frame_of (binders path)) (f ∷ fs)) xs
       by (Loop d) xs t w n rest g c =
-          let v = var_form (binders path - 1 - d) in
-          (above (items_value s y v) (var-nonneg y (binders path - 1 - d)), rest (v ∷ xs) (step_tracks (frame_of (binders path) (Loop d)) ls xs t) w (var-nonneg y (binders path - 1 - d), n) g)
+          let v = var_form (binders path - 1 - d) in (
+            above (items_value s y v) (var-nonneg y (binders path - 1 - d)),
+            rest (v ∷ xs) (step_tracks (frame_of (binders path) (Loop d)) ls xs t) w
+                (var-nonneg y (binders path - 1 - d), n) g,
+          )
       by Swapped [] t w n rest g c = absurd w
       by Swapped (x ∷ []) t w n rest g c = absurd w
       by Swapped (x ∷ z ∷ xs) t w n rest g c = rest (z ∷ x ∷ xs) (step_tracks (frame_of (binders path) Swapped) ls (x ∷ z ∷ xs) t) w (n.1.0, (n.0, n.1.1)) g
       by (Joined m) [] t w n rest g c = absurd w
       by (Joined m) (x ∷ []) t w n rest g c = absurd w
       by (Joined m) (x ∷ z ∷ xs) t w n rest g c =
-          rest (sum_of (product_of x m) z ∷ xs) (step_tracks (frame_of (binders path) (Joined m)) ls (x ∷ z ∷ xs) t) w.1 (sum-nonneg y (product_of x m) z (product-nonneg y x m n.0 (w.0 y)) n.1.0, n.1.1) g
+          rest (sum_of (product_of x m) z ∷ xs) (step_tracks (frame_of (binders path) (Joined m)) ls (x ∷ z ∷ xs) t) w.1 (
+            sum-nonneg y (product_of x m) z
+                (product-nonneg y x m n.0 (w.0 y)) n.1.0,
+            n.1.1,
+          ) g
       by (Tiled q) [] t w n rest g c = absurd w
       by (Tiled q) (x ∷ xs) t w n rest g c =
-          rest (quotient_of x q ∷ remainder_of x q ∷ xs) (step_tracks (frame_of (binders path) (Tiled q)) ls (x ∷ xs) t) w.1 (quotient-nonneg y x q w.0 n.0, (remainder-nonneg y x q w.0 n.0, n.1)) g
+          rest (quotient_of x q ∷ remainder_of x q ∷ xs) (step_tracks (frame_of (binders path) (Tiled q)) ls (x ∷ xs) t) w.1 (
+            quotient-nonneg y x q w.0 n.0,
+            (remainder-nonneg y x q w.0 n.0, n.1),
+          ) g
       by (Later a) [] t w n rest g c = absurd w
       by (Later a) (x ∷ xs) t w n rest g c =
           let v = sum-nonneg y x a n.0 (w.0 y) in
@@ -425,13 +469,20 @@ module _ (s maxima : List ℕ) where
           let v : NonNeg y z = drop-holds path y ls x xs (λ u. difference_of u a) t c.0 k h in
           (above (items_value s y z) v, rest (z ∷ xs) (step_tracks (frame_of (binders path) (Without a)) ls (x ∷ xs) t) w (v, n.1) g)
       by (Before m) [] t w n rest g c = absurd w
-      by (Before m) (x ∷ xs) t w n rest g c =
-          (above (items_value s y (below m x)) (drop-holds path y ls x xs (below m) t c.0 k h), rest (x ∷ xs) (step_tracks (frame_of (binders path) (Before m)) ls (x ∷ xs) t) w n g)
+      by (Before m) (x ∷ xs) t w n rest g c = (
+        above (items_value s y (below m x)) (drop-holds path y ls x xs (below m) t c.0 k h),
+        rest (x ∷ xs) (step_tracks (frame_of (binders path) (Before m)) ls (x ∷ xs) t) w n g,
+      )
 
-  store_fits : (p : Place) (r y : List ℕ) → Ready p.spot.around 0 → Every ClaimHolds (drop_claims p.spot) → PrintedHolds (store_place p) → Here p r y → StoreFits s p r y
-  store_fits p r y w g f h = (none_dropped p.spot.path y h.kept h.holds p.spot.around (Ok []) [] (λ zs e. cc) w tt g, exact-here p r y (store_place p) (store_form p) refl (store-raw p) f h)
+  store_fits : (p : Place) (r y : List ℕ) → Ready p.spot.around 0 → Every ClaimHolds (drop_claims p.spot) → PrintedHolds (store_place p) → Here p r y
+      → StoreFits s p r y
+  store_fits p r y w g f h = (
+    none_dropped p.spot.path y h.kept h.holds p.spot.around (Ok []) [] (λ zs e. cc) w tt g,
+    exact-here p r y (store_place p) (store_form p) refl (store-raw p) f h,
+  )
 
-  leaf_fits : (e : Term) (p : Place) (r y : List ℕ) → WordApt e p → Ready p.spot.around 0 → Every ClaimHolds (leaf_claims e p.spot (shapes p)) → Every PrintedHolds (leaf_printed e p) → Here p r y → LeafFits s e p r y
+  leaf_fits : (e : Term) (p : Place) (r y : List ℕ) → WordApt e p → Ready p.spot.around 0 → Every ClaimHolds (leaf_claims e p.spot (shapes p))
+      → Every PrintedHolds (leaf_printed e p) → Here p r y → LeafFits s e p r y
   leaf_fits e p r y a w g f h =
       let gs = every_parts ClaimHolds (drop_claims p.spot) (word_claims e p.spot.path (shapes p)) g in
       (store_fits p r y w gs.0 f.0 h, word_fits e p r y a gs.1 f.1 h)
@@ -440,17 +491,24 @@ module _ (s maxima : List ℕ) where
   shifted-length [] = refl
   shifted-length (x ∷ xs) = ap suc (shifted-length xs)
 
-  full_read_fits : (ns : Extents) (d : Read) (p : Place) (r y : List ℕ) → Every SizeForm ns → ReadApt d (length ns) p → Ready p.spot.around (length ns) → Every ClaimHolds (full_read_claims ns d p.spot (shapes p)) → Every PrintedHolds (full_read_printed ns d p) → Here p r y → FullReadFits s ns d p r y
+  full_read_fits : (ns : Extents) (d : Read) (p : Place) (r y : List ℕ) → Every SizeForm ns → ReadApt d (length ns) p → Ready p.spot.around (length ns)
+      → Every ClaimHolds (full_read_claims ns d p.spot (shapes p)) → Every PrintedHolds (full_read_printed ns d p) → Here p r y → FullReadFits s ns d p r y
   full_read_fits [] d p r y b a w g f h =
       let gs = every_parts ClaimHolds (drop_claims p.spot) (read_claims d p.spot.path (shapes p)) g in
       (store_fits p r y w gs.0 f.0 h, read_fits d p r y a gs.1 f.1.0 h)
   full_read_fits (n ∷ ns) d p r y b a w g f h = (
     number-here p r y n b.0.0 f.0 h,
     λ i l.
-        full_read_fits ns (one_deeper d) (in_gen n p) (r ++ i ∷ []) (i ∷ y) b.1 (omega (arith, a.0, shifted-length d.indices), a.1, a.2) w g f.1 (turn-here p (in_gen n p) n r y i refl b.0 l h),
+        full_read_fits ns (one_deeper d) (in_gen n p) (r ++ i ∷ []) (i ∷ y) b.1 (
+          omega (arith, a.0, shifted-length d.indices),
+          a.1,
+          a.2,
+        ) w g f.1 (turn-here p (in_gen n p) n r y i refl b.0 l h),
   )
 
-  full_read_fits_if : (ns : Extents) (o : Option Read) (p : Place) (r y : List ℕ) → Every SizeForm ns → ReadAptIf o (length ns) p → Ready p.spot.around (length ns) → Every ClaimHolds (full_read_claims_if ns o p.spot (shapes p)) → Every PrintedHolds (full_read_printed_if ns o p) → Here p r y → FullReadFitsIf s ns o p r y
+  full_read_fits_if : (ns : Extents) (o : Option Read) (p : Place) (r y : List ℕ) → Every SizeForm ns → ReadAptIf o (length ns) p
+      → Ready p.spot.around (length ns) → Every ClaimHolds (full_read_claims_if ns o p.spot (shapes p)) → Every PrintedHolds (full_read_printed_if ns o p)
+      → Here p r y → FullReadFitsIf s ns o p r y
   full_read_fits_if ns None p r y b a w g f h = a
   full_read_fits_if ns (Some d) p r y b a w g f h = full_read_fits ns d p r y b a w g f h
 
@@ -458,8 +516,10 @@ module _ (s maxima : List ℕ) where
   abbrev pub Apt : Term → Place → ℕ → Type 0
   Apt (Lit w) p k = k ≡ 0
   Apt (WordOf x) p k = k ≡ 0
-  Apt (TVar q) p k = Every SizeForm (shape_at (TVar q) p) × ReadAptIf (read_under (TVar q) []) (length (shape_at (TVar q) p)) p × (k ≡ length (shape_at (TVar q) p))
-  Apt (index e x) p k = Every SizeForm (shape_at (index e x) p) × ReadAptIf (read_under (index e x) []) (length (shape_at (index e x) p)) p × (k ≡ length (shape_at (index e x) p))
+  Apt (TVar q) p k = Every SizeForm (shape_at (TVar q) p) × ReadAptIf (read_under (TVar q) []) (length (shape_at (TVar q) p)) p
+      × (k ≡ length (shape_at (TVar q) p))
+  Apt (index e x) p k = Every SizeForm (shape_at (index e x) p) × ReadAptIf (read_under (index e x) []) (length (shape_at (index e x) p)) p
+      × (k ≡ length (shape_at (index e x) p))
   Apt (gen n e) p k = SizeForm n × ((j : ℕ) × (k ≡ suc j) × Apt e (in_gen n p) j)
   Apt (sum n e) p k = SizeForm n × Apt e (in_sum n p) k
   Apt (guard c e) p k = CmpsNormal c.all × Apt e (in_guard c p) k
@@ -476,9 +536,11 @@ module _ (s maxima : List ℕ) where
   Apt (pad_l a e) p k = NotNegative a × ((j : ℕ) × (k ≡ suc j) × Apt e (under_node (Later a) p) k)
   Apt (pad_r a e) p k = Apt e p k
 
-  add_fits : (a b : Term) (p : Place) (k : ℕ) (r y : List ℕ) → (Apt a p k → Every ClaimHolds (claims_at a p) → Every PrintedHolds (printed_of a p) → Fits s a p r y) → (Apt b p k → Every ClaimHolds (claims_at b p) → Every PrintedHolds (printed_of b p) → Fits s b p r y) → (c : Bool)
+  add_fits : (a b : Term) (p : Place) (k : ℕ) (r y : List ℕ) → (Apt a p k → Every ClaimHolds (claims_at a p) → Every PrintedHolds (printed_of a p)
+      → Fits s a p r y) → (Apt b p k → Every ClaimHolds (claims_at b p) → Every PrintedHolds (printed_of b p) → Fits s b p r y) → (c : Bool)
       → either c ((k ≡ 0) × WordApt (add a b) p) (Apt a p k × Apt b p k) → Ready p.spot.around k
-      → Every ClaimHolds (if c then leaf_claims (add a b) p.spot (shapes p) else (claims_at a p ++ claims_at b p)) → Every PrintedHolds (if c then leaf_printed (add a b) p else (printed_of a p ++ printed_of b p)) → Here p r y
+      → Every ClaimHolds (if c then leaf_claims (add a b) p.spot (shapes p) else (claims_at a p ++ claims_at b p))
+      → Every PrintedHolds (if c then leaf_printed (add a b) p else (printed_of a p ++ printed_of b p)) → Here p r y
       → either c (LeafFits s (add a b) p r y) (Fits s a p r y × Fits s b p r y)
   add_fits a b p k r y left right true m d g f h = leaf_fits (add a b) p r y m.1 (subst (Ready p.spot.around) m.0 d) g f h
   add_fits a b p k r y left right false m d g f h =
@@ -487,13 +549,18 @@ module _ (s maxima : List ℕ) where
       (left m.0 gs.0 fs.0, right m.1 gs.1 fs.1)
 
   -- what goals and printed forms say is what the loops are owed
-  pub fits : (e : Term) (p : Place) (k : ℕ) (r y : List ℕ) → Apt e p k → Ready p.spot.around k → Every ClaimHolds (claims_at e p) → Every PrintedHolds (printed_of e p) → Here p r y → Fits s e p r y
+  pub fits : (e : Term) (p : Place) (k : ℕ) (r y : List ℕ) → Apt e p k → Ready p.spot.around k → Every ClaimHolds (claims_at e p)
+      → Every PrintedHolds (printed_of e p) → Here p r y → Fits s e p r y
   fits (Lit w) p k r y a d g f h = leaf_fits (Lit w) p r y tt (subst (Ready p.spot.around) a d) g f h
   fits (WordOf x) p k r y a d g f h = leaf_fits (WordOf x) p r y tt (subst (Ready p.spot.around) a d) g f h
   fits (TVar q) p k r y a d g f h = full_read_fits_if (shape_at (TVar q) p) (read_under (TVar q) []) p r y a.0 a.1 (subst (Ready p.spot.around) a.2 d) g f h
-  fits (index e x) p k r y a d g f h = full_read_fits_if (shape_at (index e x) p) (read_under (index e x) []) p r y a.0 a.1 (subst (Ready p.spot.around) a.2 d) g f h
-  fits (gen n e) p k r y a d g f h =
-      (number-here p r y n a.0.0 f.0 h, λ i l. fits e (in_gen n p) a.1.0 (r ++ i ∷ []) (i ∷ y) a.1.2 (subst (Ready p.spot.around) a.1.1 d) g f.1 (turn-here p (in_gen n p) n r y i refl a.0 l h))
+  fits (index e x) p k r y a d g f h = full_read_fits_if (shape_at (index e x) p) (read_under (index e x) []) p r y a.0 a.1
+      (subst (Ready p.spot.around) a.2 d) g f h
+  fits (gen n e) p k r y a d g f h = (
+    number-here p r y n a.0.0 f.0 h,
+    λ i l. fits e (in_gen n p) a.1.0 (r ++ i ∷ []) (i ∷ y) a.1.2 (subst (Ready p.spot.around) a.1.1 d) g f.1
+        (turn-here p (in_gen n p) n r y i refl a.0 l h),
+  )
   fits (sum n e) p k r y a d g f h =
       (number-here p r y n a.0.0 f.0 h, λ i l. fits e (in_sum n p) k (r ++ i ∷ []) (i ∷ y) a.1 d g f.1 (turn-here p (in_sum n p) n r y i refl a.0 l h))
   fits (guard c e) p k r y a d g f h =
@@ -502,26 +569,45 @@ module _ (s maxima : List ℕ) where
   fits (let_in a b) p k r y m d g f h =
       let gs = every_parts ClaimHolds (claims_at a (in_definition a p)) (claims_at b (in_body a p)) g in
       let fs = every_parts PrintedHolds (printed_of a (in_definition a p)) (printed_of b (in_body a p)) f.1.1 in (
-        (number-here p r y p.free m.2 f.0 h, numbered (length_form (shape_at a p)) (word_count (extents_at (shape_at a p) s)) r y (exact-here p r y (length_printed (shape_at a p) p) (length_form (shape_at a p)) refl (words-raw (shape_at a p)) f.1.0 h) (length-value s y (shape_at a p) (all-counts y (shape_at a p) m.3))),
+        (
+          number-here p r y p.free m.2 f.0 h,
+          numbered (length_form (shape_at a p)) (word_count (extents_at (shape_at a p) s)) r y
+              (exact-here p r y (length_printed (shape_at a p) p) (length_form (shape_at a p)) refl (words-raw (shape_at a p)) f.1.0 h)
+              (length-value s y (shape_at a p) (all-counts y (shape_at a p) m.3)),
+        ),
         fits a (in_definition a p) m.0.0 r y m.0.1 tt gs.0 fs.0 (same-here p (in_definition a p) r y refl h),
         fits b (in_body a p) k r y m.1 d gs.1 fs.1 (same-here p (in_body a p) r y refl h),
       )
-  fits (add a b) p k r y m d g f h = add_fits a b p k r y (λ m g f. fits a p k r y m d g f h) (λ m g f. fits b p k r y m d g f h) (adds_words a b (shapes p)) m d g f h
+  fits (add a b) p k r y m d g f h = add_fits a b p k r y (λ m g f. fits a p k r y m d g f h) (λ m g f. fits b p k r y m d g f h)
+      (adds_words a b (shapes p)) m d g f h
   fits (sub a b) p k r y m d g f h = leaf_fits (sub a b) p r y m.1 (subst (Ready p.spot.around) m.0 d) g f h
   fits (mul a b) p k r y m d g f h = leaf_fits (mul a b) p r y m.1 (subst (Ready p.spot.around) m.0 d) g f h
   fits (concat a b) p k r y m d g f h =
       let gs = every_parts ClaimHolds (claims_at a p) (claims_at b (on_right a p)) g in
       let fs = every_parts PrintedHolds (printed_of a p) (printed_of b (on_right a p)) f in
-      let later : Ready (Later (first_of (shape_at a p)) ∷ p.spot.around) k = subst (Ready (Later (first_of (shape_at a p)) ∷ p.spot.around)) (sym m.1.1) (m.0, subst (Ready p.spot.around) m.1.1 d) in
+      let later : Ready (Later (first_of (shape_at a p)) ∷ p.spot.around) k = subst (Ready (Later (first_of (shape_at a p)) ∷ p.spot.around)) (sym m.1.1) (
+        m.0,
+        subst (Ready p.spot.around) m.1.1 d,
+      ) in
       (fits a p k r y m.2 d gs.0 fs.0 h, fits b (on_right a p) k r y m.3 later gs.1 fs.1 (same-here p (on_right a p) r y refl h))
-  fits (flatten e) p k r y m d g f h = fits e (in_flatten e p) (suc (suc m.1.0)) r y m.1.2 (m.0, subst (Ready p.spot.around) m.1.1 d) g f (same-here p (in_flatten e p) r y refl h)
-  fits (split q e) p k r y m d g f h = fits e (under_node (Tiled q) p) (suc m.1.0) r y m.1.2 (m.0, subst (Ready p.spot.around) m.1.1 d) g f (same-here p (under_node (Tiled q) p) r y refl h)
+  fits (flatten e) p k r y m d g f h = fits e (in_flatten e p) (suc (suc m.1.0)) r y m.1.2 (
+    m.0,
+    subst (Ready p.spot.around) m.1.1 d,
+  ) g f (same-here p (in_flatten e p) r y refl h)
+  fits (split q e) p k r y m d g f h = fits e (under_node (Tiled q) p) (suc m.1.0) r y m.1.2 (
+    m.0,
+    subst (Ready p.spot.around) m.1.1 d,
+  ) g f (same-here p (under_node (Tiled q) p) r y refl h)
   fits (transpose e) p k r y m d g f h =
-      fits e (under_node Swapped p) k r y m.2 (subst (Ready (Swapped ∷ p.spot.around)) (sym m.1) (subst (Ready p.spot.around) m.1 d)) g f (same-here p (under_node Swapped p) r y refl h)
+      fits e (under_node Swapped p) k r y m.2 (subst (Ready (Swapped ∷ p.spot.around)) (sym m.1) (subst (Ready p.spot.around) m.1 d)) g f
+      (same-here p (under_node Swapped p) r y refl h)
   fits (trunc_l a e) p k r y m d g f h =
-      fits e (under_node (Without a) p) k r y m.2 (subst (Ready (Without a ∷ p.spot.around)) (sym m.1) (subst (Ready p.spot.around) m.1 d)) g f (same-here p (under_node (Without a) p) r y refl h)
+      fits e (under_node (Without a) p) k r y m.2 (subst (Ready (Without a ∷ p.spot.around)) (sym m.1) (subst (Ready p.spot.around) m.1 d)) g f
+      (same-here p (under_node (Without a) p) r y refl h)
   fits (trunc_r a e) p k r y m d g f h =
-      fits e (in_truncr a e p) k r y m.2 (subst (Ready (Before (first_of (shape_at (trunc_r a e) p)) ∷ p.spot.around)) (sym m.1) (subst (Ready p.spot.around) m.1 d)) g f (same-here p (in_truncr a e p) r y refl h)
+      fits e (in_truncr a e p) k r y m.2 (subst (Ready (Before (first_of (shape_at (trunc_r a e) p)) ∷ p.spot.around)) (sym m.1)
+      (subst (Ready p.spot.around) m.1 d)) g f (same-here p (in_truncr a e p) r y refl h)
   fits (pad_l a e) p k r y m d g f h =
-      fits e (under_node (Later a) p) k r y m.1.2 (subst (Ready (Later a ∷ p.spot.around)) (sym m.1.1) (m.0, subst (Ready p.spot.around) m.1.1 d)) g f (same-here p (under_node (Later a) p) r y refl h)
+      fits e (under_node (Later a) p) k r y m.1.2 (subst (Ready (Later a ∷ p.spot.around)) (sym m.1.1) (m.0, subst (Ready p.spot.around) m.1.1 d)) g f
+      (same-here p (under_node (Later a) p) r y refl h)
   fits (pad_r a e) p k r y m d g f h = fits e p k r y m d g f h

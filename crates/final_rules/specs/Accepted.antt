@@ -43,7 +43,8 @@ InputsFit s (d ∷ ds) = Numbered s (length_form d.extents) (word_count (extents
 abbrev pub OutputsFit : Module → List ℕ → List OutputDecl → Type 0
 OutputsFit m s [] = Unit {0}
 OutputsFit m s (o ∷ os) =
-    Numbered s (length_form (output_extents m o)) (word_count (extents_at (output_extents m o) s)) [] [] × Fits s o.term (output_place m o) [] [] × OutputsFit m s os
+    Numbered s (length_form (output_extents m o)) (word_count (extents_at (output_extents m o) s)) [] [] × Fits s o.term (output_place m o) [] []
+    × OutputsFit m s os
 
 -- where there is a let, the printed length of the scratch region is exact: it is what the module needs, and at most 2^62
 abbrev pub ScratchFits : Module → List ℕ → Bool → Type 0

@@ -23,7 +23,8 @@ use Rattle.reindexer.specs.Sending.{Within, row_order}
 use Rattle.final_rules.specs.declared.spot.Around.TheVariants.{Swapped, Tiled, Later, Without}
 use Rattle.final_rules.specs.declared.read.Read.{Read}
 use Rattle.final_rules.specs.Form.{read_under, one_deeper, adds_words}
-use Rattle.final_rules.specs.Places.{Place, read_form, store_form, site_at, shapes, shape_at, in_gen, in_sum, in_guard, under_node, in_definition, in_body, on_right, in_flatten, in_truncr, frames_at, length_form}
+use Rattle.final_rules.specs.Places.{Place, read_form, store_form, site_at, shapes, shape_at, in_gen, in_sum, in_guard, under_node, in_definition, in_body}
+use Rattle.final_rules.specs.Places.{on_right, in_flatten, in_truncr, frames_at, length_form}
 use Rattle.final_rules.specs.Printed.{largest_index}
 
 -- indices and their values
@@ -99,7 +100,8 @@ module _ (s : List ℕ) where
   Fits (gen n e) p r y = Turns n r y (Fits e (in_gen n p))
   Fits (sum n e) p r y = Turns n r y (Fits e (in_sum n p))
   Fits (guard c e) p r y = EachExactly c.all r y × (all_hold s y c.all ≡ true → Fits e (in_guard c p) r y)
-  Fits (let_in a b) p r y = (Numbered p.free (extent p.free s) r y × Numbered (length_form (shape_at a p)) (word_count (extents_at (shape_at a p) s)) r y) × Fits a (in_definition a p) r y × Fits b (in_body a p) r y
+  Fits (let_in a b) p r y = (Numbered p.free (extent p.free s) r y × Numbered (length_form (shape_at a p)) (word_count (extents_at (shape_at a p) s)) r y)
+      × Fits a (in_definition a p) r y × Fits b (in_body a p) r y
   Fits (add a b) p r y = either (adds_words a b (shapes p)) (LeafFits (add a b) p r y) (Fits a p r y × Fits b p r y)
   Fits (sub a b) p r y = LeafFits (sub a b) p r y
   Fits (mul a b) p r y = LeafFits (mul a b) p r y

@@ -17,7 +17,8 @@ use Rattle.region_plan.specs.Needed.{words_form}
 use Rattle.final_rules.specs.declared.spot.Around.TheVariants.{Swapped, Tiled, Later, Without}
 use Rattle.final_rules.specs.declared.read.Read.{Read}
 use Rattle.final_rules.specs.Form.{read_under, one_deeper, adds_words}
-use Rattle.final_rules.specs.Places.{Place, site_at, shapes, shape_at, in_gen, in_sum, in_guard, under_node, in_definition, in_body, on_right, in_flatten, in_truncr, frames_at}
+use Rattle.final_rules.specs.Places.{Place, site_at, shapes, shape_at, in_gen, in_sum, in_guard, under_node, in_definition, in_body, on_right, in_flatten}
+use Rattle.final_rules.specs.Places.{in_truncr, frames_at}
 
 -- an index that is printed, taken form by form, and the extents of the variables in scope, from the innermost
 pub record Printed : Type 0 where

@@ -1,5 +1,6 @@
 -- Whether a module in final form may be lowered: the first fault, if there is one.
-use Rattle.std.specs.Prelude.{ℕ, ◌+◌, Bool, true, false, ◌&&◌, ◌||◌, ◌==◌, max, nat_le, nat_lt, if◌then◌else◌, List, [], ◌∷◌, ◌++◌, length, map, slice_get, Option, Some, None, pos, Ok, Err}
+use Rattle.std.specs.Prelude.{ℕ, ◌+◌, Bool, true, false, ◌&&◌, ◌||◌, ◌==◌, max, nat_le, nat_lt, if◌then◌else◌, List, [], ◌∷◌, ◌++◌, length, map, slice_get}
+use Rattle.std.specs.Prelude.{Option, Some, None, pos, Ok, Err}
 use Rattle.std.specs.Option.{option_and_then, option_map}
 use Rattle.affine_index.specs.Form.{literal_form}
 use Rattle.affine_index.specs.Magnitude.{magnitude}
@@ -24,7 +25,8 @@ use Rattle.term_tree.specs.Children.{children}
 use Rattle.term_tree.specs.Modules.{input_shapes}
 use Rattle.term_tree.specs.Shape.{Extents}
 use Rattle.final_rules.specs.declared.fault.FinalFault.{FinalFault}
-use Rattle.final_rules.specs.declared.fault.FinalFault.TheVariants.{NotLowerable, NoSuchGoal, AccessNotShown, DropNotShown, IndexTooLarge, ParallelNotGen, LetInParallel, NestedParallel}
+use Rattle.final_rules.specs.declared.fault.FinalFault.TheVariants.{NotLowerable, NoSuchGoal, AccessNotShown, DropNotShown, IndexTooLarge, ParallelNotGen}
+use Rattle.final_rules.specs.declared.fault.FinalFault.TheVariants.{LetInParallel, NestedParallel}
 use Rattle.final_rules.specs.declared.goal.Goal.{Goal}
 use Rattle.final_rules.specs.declared.goal.GoalKind.{GoalKind}
 use Rattle.final_rules.specs.declared.goal.GoalKind.TheVariants.{Read, Drop}
@@ -148,7 +150,8 @@ output_lengths m = map (λ o. length_printed (output_extents m o) nowhere_yet) m
 -- each output has its fill, and then its loops
 abbrev pub body_printed : Module → List OutputDecl → List Printed
 body_printed m [] = []
-body_printed m (o ∷ os) = plain (literal_form (pos 0)) (output_place m o) ∷ length_printed (output_extents m o) (output_place m o) ∷ (printed_of o.term (output_place m o) ++ body_printed m os)
+body_printed m (o ∷ os) = plain (literal_form (pos 0)) (output_place m o) ∷ length_printed (output_extents m o) (output_place m o) ∷
+    (printed_of o.term (output_place m o) ++ body_printed m os)
 
 -- a printed expression: an index, or the length of the scratch region
 pub data Expression : Type 0 where

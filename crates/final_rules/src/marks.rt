@@ -76,11 +76,11 @@ fn gen_body(term: &Term) -> Option<&Term>
 {
     match term {
         Term::Gen(_, body) => Some(body.get()),
+        Term::Sum(_, _) => None,
         Term::Lit(_)
         | Term::TVar(_)
         | Term::WordOf(_)
         | Term::Index(_, _)
-        | Term::Sum(_, _)
         | Term::Guard(_, _)
         | Term::Let(_, _)
         | Term::Add(_, _)
