@@ -21,3 +21,4 @@ pub mod MarkSteps
 pub mod PrintingLaws
 pub mod WordForms
 pub mod LengthForms
+pub mod FramesGood

@@ -2,6 +2,7 @@ pub mod Accepted
 pub mod Form
 pub mod Goals
 pub mod Lengths
+pub mod Good
 pub mod Met
 pub mod Owed
 pub mod Places
