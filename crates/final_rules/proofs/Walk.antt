@@ -96,7 +96,7 @@ scope-bound [] n acc = refl
 scope-bound (Bound m ∷ ps) n acc = scope-bound ps n (m ∷ acc)
 scope-bound (Holds c ∷ ps) n acc = scope-bound ps n acc
 
-scope-holds : (ps : List PathFact) (c : Cond) (acc : Extents) → scope_onto acc (ps ++ Holds c ∷ []) ≡ scope_onto acc ps
+pub scope-holds : (ps : List PathFact) (c : Cond) (acc : Extents) → scope_onto acc (ps ++ Holds c ∷ []) ≡ scope_onto acc ps
 scope-holds [] c acc = refl
 scope-holds (Bound m ∷ ps) c acc = scope-holds ps c (m ∷ acc)
 scope-holds (Holds d ∷ ps) c acc = scope-holds ps c acc
