@@ -1,5 +1,6 @@
 -- A chain is lawful where its operands are.
-use Rattle.std.proofs.Common.{◌≡◌, inl, inr, ℕ, zero, suc, ◌<◌, Bool, true, false, List, [], ◌∷◌, ◌++◌, Option, Some, None, Result, Ok, Err, refl, sym, ap, subst, ◌∙◌}
+use Rattle.std.proofs.Common.{◌≡◌, inl, inr, ℕ, zero, suc, ◌<◌, Bool, true, false, List, [], ◌∷◌, ◌++◌, Option, Some, None, Result, Ok, Err, refl, sym, ap}
+use Rattle.std.proofs.Common.{subst, ◌∙◌}
 use Rattle.text_tokens.specs.declared.kind.Kind.{Kind}
 use Rattle.text_tokens.specs.declared.kind.Kind.TheVariants as k
 use Rattle.text_tokens.specs.Words.{Word, Input, peek, next}
@@ -17,7 +18,8 @@ pub record Joins {A : Type 0} (w : Word) (r : Result A Fault) (more : A → Pars
   pub joins : r ≡ Ok value
   pub rest : more value i ≡ Ok (x, j)
 
-joined_ok : {A : Type 0} (w : Word) (r : Result A Fault) (more : A → Parser A) (i : Input) (x : A) (j : Input) → joined w r more i ≡ Ok (x, j) → Joins w r more i x j
+joined_ok : {A : Type 0} (w : Word) (r : Result A Fault) (more : A → Parser A) (i : Input) (x : A) (j : Input) → joined w r more i ≡ Ok (x, j)
+    → Joins w r more i x j
 joined_ok w (Ok v) more i x j h = record { value = v; joins = refl; rest = h }
 joined_ok w (Err fault) more i x j h = absurd cc
 
@@ -29,7 +31,8 @@ none_is : {O : Type 0} (v : Option O) → is_none v ≡ true → v ≡ None
 none_is None h = refl
 none_is (Some o) h = absurd cc
 
-module _ {A B O : Type 0} (links : Links A B O) (operand : ℕ → A → O → Parser B) (operands : ℕ → A → O → List Word → B → Type 0) (operand_goes_on goes_on : Kind → Bool)
+module _ {A B O : Type 0} (links : Links A B O) (operand : ℕ → A → O → Parser B) (operands : ℕ → A → O → List Word → B → Type 0) (operand_goes_on goes_on : Kind
+    → Bool)
     (no_end : (kd : Kind) (o : O) → links.operator kd ≡ Some o → kd ≡ k.End → ⊥)
     (frees : (kd : Kind) (o : O) → links.operator kd ≡ Some o → operand_goes_on kd ≡ false)
     (stops : (kd : Kind) → goes_on kd ≡ false → (links.operator kd ≡ None) × (operand_goes_on kd ≡ false))
@@ -52,8 +55,10 @@ module _ {A B O : Type 0} (links : Links A B O) (operand : ℕ → A → O → P
       go (Some o) e = absurd cc
   chain_sound (suc n) left i j x e = go (links.operator (peek i).kind) refl (λ y l m z f. chain_sound n y l m z f) e
     where
-      go : (v : Option O) → links.operator (peek i).kind ≡ v → ((y : A) (l m : Input) (z : A) → chain links operand n y l ≡ Ok (z, m) → Found (λ ws u. IsChain links operands n y ws u) l z m)
-          → go_on v left (λ o. open_level (links.room n) >> (take_word >> (operand n left o >>= λ right. joined (peek i) (links.join o left right) (chain links operand n)))) i ≡ Ok (x, j)
+      go : (v : Option O) → links.operator (peek i).kind ≡ v
+          → ((y : A) (l m : Input) (z : A) → chain links operand n y l ≡ Ok (z, m) → Found (λ ws u. IsChain links operands n y ws u) l z m)
+          → go_on v left (λ o. open_level (links.room n) >>
+          (take_word >> (operand n left o >>= λ right. joined (peek i) (links.join o left right) (chain links operand n)))) i ≡ Ok (x, j)
           → Found (λ ws y. IsChain links operands (suc n) left ws y) i x j
       go None is again e = kept (suc n) left x i j e
       go (Some o) is again e =
@@ -66,7 +71,8 @@ module _ {A B O : Type 0} (links : Links A B O) (operand : ℕ → A → O → P
           let rest = again c.value b.at j x c.rest in
           record {
             front = peek i ∷ right.front ++ rest.front;
-            words = taken i (no_end (kind i) o is) ∙ ap (λ (l : Input). ahead (peek i ∷ []) (next l)) opened ∙ ap (ahead (peek i ∷ [])) (right.words ∙ ap (ahead right.front) rest.words ∙ ahead_append right.front rest.front j);
+            words = taken i (no_end (kind i) o is) ∙ ap (λ (l : Input). ahead (peek i ∷ []) (next l)) opened
+                ∙ ap (ahead (peek i ∷ [])) (right.words ∙ ap (ahead right.front) rest.words ∙ ahead_append right.front rest.front j);
             is = inr (record {
               word = peek i;
               front = right.front;
@@ -89,20 +95,24 @@ module _ {A B O : Type 0} (links : Links A B O) (operand : ℕ → A → O → P
   stopped (suc n) x j e = let s = (stops (kind j) e).0 in rw s refl
 
   -- an operand ends where the chain goes on, and where it ends
-  pub rest_frees : (n : ℕ) (left : A) (ws : List Word) (x : A) (j : Input) → IsChain links operands n left ws x → goes_on (kind j) ≡ false → operand_goes_on (kind (ahead ws j)) ≡ false
+  pub rest_frees : (n : ℕ) (left : A) (ws : List Word) (x : A) (j : Input) → IsChain links operands n left ws x → goes_on (kind j) ≡ false
+      → operand_goes_on (kind (ahead ws j)) ≡ false
   unfolding peek
   rest_frees zero left ws x j is e = subst (λ (vs : List Word). operand_goes_on (kind (ahead vs j)) ≡ false) (sym is.0) (stops (kind j) e).1
   rest_frees (suc n) left ws x j (inl is) e = subst (λ (vs : List Word). operand_goes_on (kind (ahead vs j)) ≡ false) (sym is.0) (stops (kind j) e).1
-  rest_frees (suc n) left ws x j (inr is) e = subst (λ (vs : List Word). operand_goes_on (kind (ahead vs j)) ≡ false) (sym is.words) (frees is.word.kind is.sign is.is)
+  rest_frees (suc n) left ws x j (inr is) e = subst (λ (vs : List Word). operand_goes_on (kind (ahead vs j)) ≡ false) (sym is.words)
+      (frees is.word.kind is.sign is.is)
 
-  one_turn : (n : ℕ) (left : A) (w : Word) (l m : Input) (o : O) (right : B) (value : A) → links.operator w.kind ≡ Some o → 0 < links.room n → operand n left o l ≡ Ok (right, m)
+  one_turn : (n : ℕ) (left : A) (w : Word) (l m : Input) (o : O) (right : B) (value : A) → links.operator w.kind ≡ Some o → 0 < links.room n
+      → operand n left o l ≡ Ok (right, m)
       → links.join o left right ≡ Ok value → chain links operand (suc n) left (ahead (w ∷ []) l) ≡ chain links operand n value m
   unfolding chain peek next
   one_turn n left w l m o right value is room reads joins =
       let opens = open_some (links.room n) (ahead (w ∷ []) l) room in
       rw (is, opens, reads, joins) refl
 
-  chain_complete : (n : ℕ) (left : A) (ws : List Word) (x : A) (j : Input) → IsChain links operands n left ws x → goes_on (kind j) ≡ false → chain links operand n left (ahead ws j) ≡ Ok (x, j)
+  chain_complete : (n : ℕ) (left : A) (ws : List Word) (x : A) (j : Input) → IsChain links operands n left ws x → goes_on (kind j) ≡ false
+      → chain links operand n left (ahead ws j) ≡ Ok (x, j)
   chain_complete zero left ws x j is e =
       ap (λ (vs : List Word). chain links operand zero left (ahead vs j)) is.0 ∙ stopped zero left j e ∙ ap (λ (y : A). done y j) (sym is.1)
   chain_complete (suc n) left ws x j (inl is) e =
@@ -124,9 +134,11 @@ module _ {A B O : Type 0} (links : Links A B O) (operand : ℕ → A → O → P
 
 -- what holds of the first value, and is kept by each join, holds of what the chain makes
 pub chain_keeps : {A B O : Type 0} (links : Links A B O) (operands : ℕ → A → O → List Word → B → Type 0) (P : A → Type 0) (Q : B → Type 0)
-    → ((n : ℕ) (a : A) (o : O) (ws : List Word) (b : B) → operands n a o ws b → Q b) → ((o : O) (a : A) (b : B) (c : A) → P a → Q b → links.join o a b ≡ Ok c → P c)
+    → ((n : ℕ) (a : A) (o : O) (ws : List Word) (b : B) → operands n a o ws b → Q b)
+    → ((o : O) (a : A) (b : B) (c : A) → P a → Q b → links.join o a b ≡ Ok c → P c)
     → (n : ℕ) (left : A) (ws : List Word) (x : A) → P left → IsChain links operands n left ws x → P x
 chain_keeps links operands P Q each kept zero left ws x p is = subst P (sym is.1) p
 chain_keeps links operands P Q each kept (suc n) left ws x p (inl is) = subst P (sym is.1) p
 chain_keeps links operands P Q each kept (suc n) left ws x p (inr is) =
-    chain_keeps links operands P Q each kept n is.value is.rest x (kept is.sign left is.right is.value p (each n left is.sign is.front is.right is.is_operand) is.joins) is.is_rest
+    chain_keeps links operands P Q each kept n is.value is.rest x
+    (kept is.sign left is.right is.value p (each n left is.sign is.front is.right is.is_operand) is.joins) is.is_rest

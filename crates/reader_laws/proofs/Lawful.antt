@@ -8,7 +8,8 @@ use Rattle.reader_laws.specs.Steps.{Parser, and_then, ◌>>=◌, ◌>>◌, pure,
 use Rattle.reader_laws.specs.declared.fault.Fault.{Fault}
 use Rattle.reader_laws.specs.Grammar.{IsWordOf, IsNothing, Opened, OneOf, Both}
 use Rattle.reader_laws.proofs.Outcomes.{ahead, ahead_append, then_ok, done, ok_value, ok_input, taken, is_same, same_self, open_some}
-use Rattle.reader_laws.proofs.Local.{Local, LocalOn, Nowhere, local_bind, local_pure, local_refuse, local_unexpected, local_peek, on_bind, on_take, on_local, on_open}
+use Rattle.reader_laws.proofs.Local.{Local, LocalOn, Nowhere, local_bind, local_pure, local_refuse, local_unexpected, local_peek, on_bind, on_take, on_local}
+use Rattle.reader_laws.proofs.Local.{on_open}
 
 -- what was read: these words, which stand for this
 pub record Found {A : Type 0} (rule : List Word → A → Type 0) (i : Input) (x : A) (j : Input) : Type 0 where
@@ -27,9 +28,11 @@ never kd = false
 
 -- where the second begins or the whole ends, the first does not go on
 abbrev pub Frees : {A B : Type 0} → (A → List Word → B → Type 0) → (Kind → Bool) → (Kind → Bool) → Type 0
-Frees {A = A} {B = B} then first_goes_on goes_on = (x : A) (rest : List Word) (y : B) (j : Input) → then x rest y → goes_on (kind j) ≡ false → first_goes_on (kind (ahead rest j)) ≡ false
+Frees {A = A} {B = B} then first_goes_on goes_on = (x : A) (rest : List Word) (y : B) (j : Input) → then x rest y → goes_on (kind j) ≡ false
+    → first_goes_on (kind (ahead rest j)) ≡ false
 
-pub lawful_both : {A B : Type 0} (p : Parser A) (f : A → Parser B) (first : List Word → A → Type 0) (then : A → List Word → B → Type 0) (first_goes_on goes_on : Kind → Bool)
+pub lawful_both : {A B : Type 0} (p : Parser A) (f : A → Parser B) (first : List Word → A → Type 0) (then : A → List Word → B → Type 0)
+    (first_goes_on goes_on : Kind → Bool)
     → Lawful p first first_goes_on → ((x : A) → Lawful (f x) (then x) goes_on) → Frees then first_goes_on goes_on → Lawful (p >>= f) (Both first then) goes_on
 lawful_both p f first then first_goes_on goes_on lp lf frees = record {
   sound = λ i j y h.
@@ -69,7 +72,8 @@ on_read w (Ok x) some = on_bind Nowhere w take_word (λ _. pure x) (on_take Nowh
 on_read w (Err fault) some = on_local Nowhere w (refuse fault) (local_refuse Nowhere fault)
 
 -- a test of the next word
-pub on_cond : {A : Type 0} (b : Bool) (w : Word) (p q : Parser A) → (b ≡ true → LocalOn Nowhere w p) → LocalOn Nowhere w q → LocalOn Nowhere w (λ i. cond b (p i) (q i))
+pub on_cond : {A : Type 0} (b : Bool) (w : Word) (p q : Parser A) → (b ≡ true → LocalOn Nowhere w p) → LocalOn Nowhere w q
+    → LocalOn Nowhere w (λ i. cond b (p i) (q i))
 on_cond true w p q hp hq = hp refl
 on_cond false w p q hp hq = hq
 
@@ -80,7 +84,8 @@ local_word a reads some = local_peek Nowhere (λ w i. cond (same_kind w.kind a) 
     (λ s. on_read w (reads w.text) (λ (z : w.kind ≡ k.End). some (sym (is_same w.kind a s) ∙ z)))
     (on_local Nowhere w unexpected (local_unexpected Nowhere)))
 
-word_ok : {A : Type 0} (a : Kind) (reads : Text → Result A Fault) → (a ≡ k.End → ⊥) → (i j : Input) (x : A) → a_word a reads i ≡ Ok (x, j) → Found (IsWordOf a reads) i x j
+word_ok : {A : Type 0} (a : Kind) (reads : Text → Result A Fault) → (a ≡ k.End → ⊥) → (i j : Input) (x : A) → a_word a reads i ≡ Ok (x, j)
+    → Found (IsWordOf a reads) i x j
 unfolding a_word
 word_ok a reads some i j x h = go (same_kind (kind i) a) refl h
   where
@@ -95,7 +100,8 @@ word_ok a reads some i j x h = go (same_kind (kind i) a) refl h
           is = record { word = peek i; is = is; reads_as = r.0; words = refl };
         }
 
-word_cons : {A : Type 0} (a : Kind) (reads : Text → Result A Fault) (w : Word) (x : A) (i : Input) → w.kind ≡ a → reads w.text ≡ Ok x → a_word a reads (ahead (w ∷ []) i) ≡ Ok (x, i)
+word_cons : {A : Type 0} (a : Kind) (reads : Text → Result A Fault) (w : Word) (x : A) (i : Input) → w.kind ≡ a → reads w.text ≡ Ok x
+    → a_word a reads (ahead (w ∷ []) i) ≡ Ok (x, i)
 unfolding a_word peek next
 word_cons a reads w x i is value = rw (is, same_self a, value) refl
 
@@ -115,12 +121,14 @@ lawful_pure a goes_on = record {
   depends = local_pure Nowhere a;
 }
 
-opened_sound : {A : Type 0} (levels : ℕ) (p : Parser A) (rule : List Word → A → Type 0) (i j : Input) (x : A) → ((l m : Input) (y : A) → p l ≡ Ok (y, m) → Found rule l y m)
+opened_sound : {A : Type 0} (levels : ℕ) (p : Parser A) (rule : List Word → A → Type 0) (i j : Input) (x : A)
+    → ((l m : Input) (y : A) → p l ≡ Ok (y, m) → Found rule l y m)
     → and_then (open_level levels i) (λ _. p) ≡ Ok (x, j) → Found (Opened levels rule) i x j
 opened_sound zero p rule i j x sound h = absurd cc
 opened_sound (suc levels) p rule i j x sound h = let f = sound i j x h in record { front = f.front; words = f.words; is = (omega arith, f.is) }
 
-pub lawful_open : {A : Type 0} (levels : ℕ) (p : Parser A) (rule : List Word → A → Type 0) (goes_on : Kind → Bool) → Lawful p rule goes_on → Lawful (open_level levels >> p) (Opened levels rule) goes_on
+pub lawful_open : {A : Type 0} (levels : ℕ) (p : Parser A) (rule : List Word → A → Type 0) (goes_on : Kind → Bool) → Lawful p rule goes_on
+    → Lawful (open_level levels >> p) (Opened levels rule) goes_on
 lawful_open levels p rule goes_on l = record {
   sound = λ i j x h. opened_sound levels p rule i j x l.sound h;
   complete = λ front x j is stops.
@@ -149,7 +157,8 @@ lawful_unexpected goes_on = record {
 }
 
 -- where nothing goes on, something that never goes on may be asked for less
-pub lawful_less : {A : Type 0} (p : Parser A) (rule : List Word → A → Type 0) (goes_on more : Kind → Bool) → ((kd : Kind) → more kd ≡ false → goes_on kd ≡ false) → Lawful p rule goes_on → Lawful p rule more
+pub lawful_less : {A : Type 0} (p : Parser A) (rule : List Word → A → Type 0) (goes_on more : Kind → Bool)
+    → ((kd : Kind) → more kd ≡ false → goes_on kd ≡ false) → Lawful p rule goes_on → Lawful p rule more
 lawful_less p rule goes_on more h l = record {
   sound = l.sound;
   complete = λ front x j is stops. l.complete front x j is (h (kind j) stops);

@@ -59,11 +59,24 @@ local_pure M x i = record { front = []; at = i; words = refl; ends = refl; again
 
 pub local_refuse : {A : Type 0} (M : Fault → ℕ → Type 0) (fault : Fault) → LocalBut M (refuse {A = A} fault)
 unfolding refusal
-local_refuse M fault i = record { front = []; at = i; words = refl; ends = inr (inl refl); again = λ l h. ap (λ (w : Word). Err (Refused fault w.place)) h.word }
+local_refuse M fault i = record {
+  front = [];
+  at = i;
+  words = refl;
+  ends = inr (inl refl);
+  again = λ l h. ap (λ (w : Word). Err (Refused fault w.place)) h.word;
+}
 
 pub local_unexpected : {A : Type 0} (M : Fault → ℕ → Type 0) → LocalBut M (unexpected {A = A})
 unfolding refusal misplaced
-local_unexpected M i = record { front = []; at = i; words = refl; ends = inr (inl refl); again = λ l h. ap (λ (w : Word). Err (Refused (cond (same_kind w.kind k.Bad) BadToken BadSyntax) w.place)) h.word }
+local_unexpected M i = record {
+  front = [];
+  at = i;
+  words = refl;
+  ends = inr (inl refl);
+  again = λ l h. ap
+      (λ (w : Word). Err (Refused (cond (same_kind w.kind k.Bad) BadToken BadSyntax) w.place)) h.word;
+}
 
 -- a fault at a place that is allowed
 pub local_back : {A : Type 0} (M : Fault → ℕ → Type 0) (fault : Fault) (place : ℕ) → M fault place → LocalBut {A = A} M (λ i. Err (Refused fault place))
@@ -79,7 +92,8 @@ on_take M w some i is = record {
   again = λ l h. ap (λ (v : Word). let o : Outcome Text = Ok (v.text, l) in o) (sym is);
 }
 
-err_ends : (A B : Type 0) (M : Fault → ℕ → Type 0) (x : ReadError) (front : List Word) (at : Input) → Ends {A = A} M (Err x) front at → Ends {A = B} M (Err x) front at
+err_ends : (A B : Type 0) (M : Fault → ℕ → Type 0) (x : ReadError) (front : List Word) (at : Input) → Ends {A = A} M (Err x) front at
+    → Ends {A = B} M (Err x) front at
 err_ends A B M Memory front at h = h
 err_ends A B M (Refused fault place) front at h = h
 
@@ -97,7 +111,8 @@ ends_after M (Err Memory) front more at h = h
 ends_after M (Err (Refused fault place)) front more at (inl h) = inl h
 ends_after M (Err (Refused fault place)) front more at (inr h) = inr (stands_after front more fault place (peek at) h)
 
-bind_by : {A B : Type 0} (M : Fault → ℕ → Type 0) (p : Parser A) (f : A → Parser B) (i : Input) (r : Outcome A) → p i ≡ r → (front : List Word) (at : Input) → i ≡ ahead front at → Ends M r front at
+bind_by : {A B : Type 0} (M : Fault → ℕ → Type 0) (p : Parser A) (f : A → Parser B) (i : Input) (r : Outcome A) → p i ≡ r → (front : List Word) (at : Input)
+    → i ≡ ahead front at → Ends M r front at
     → ((l : Input) → Alike l at → p (ahead front l) ≡ moved r l) → ((x : A) → LocalBut M (f x)) → Seen M (p >>= f) i
 bind_by {A = A} {B = B} M p f i (Err x) is front at words ends again rest = record {
   front = front;
@@ -116,16 +131,19 @@ bind_by M p f i (Ok v) is front at words ends again rest =
       ends = subst (λ r. Ends M (and_then r f) (front ++ s.front) s.at) (sym is) (ends_after M (f v.0 v.1) front s.front s.at s.ends);
       again = λ l h.
           let k : Alike (ahead s.front l) at = subst (λ (z : Input). Alike (ahead s.front l) z) (sym e) (alike_ahead s.front l s.at h) in
-          ap (λ (z : Input). and_then (p z) f) (sym (ahead_append front s.front l)) ∙ ap (λ r. and_then r f) (again (ahead s.front l) k) ∙ s.again l h ∙ ap (λ r. moved (and_then r f) l) (sym is);
+          ap (λ (z : Input). and_then (p z) f) (sym (ahead_append front s.front l)) ∙ ap (λ r. and_then r f) (again (ahead s.front l) k) ∙ s.again l h
+          ∙ ap (λ r. moved (and_then r f) l) (sym is);
     }
 
-pub bind_at : {A B : Type 0} (M : Fault → ℕ → Type 0) (p : Parser A) (f : A → Parser B) (i : Input) → Seen M p i → ((x : A) → LocalBut M (f x)) → Seen M (p >>= f) i
+pub bind_at : {A B : Type 0} (M : Fault → ℕ → Type 0) (p : Parser A) (f : A → Parser B) (i : Input) → Seen M p i → ((x : A) → LocalBut M (f x))
+    → Seen M (p >>= f) i
 bind_at M p f i s rest = bind_by M p f i (p i) refl s.front s.at s.words s.ends s.again rest
 
 pub local_bind : {A B : Type 0} (M : Fault → ℕ → Type 0) (p : Parser A) (f : A → Parser B) → LocalBut M p → ((x : A) → LocalBut M (f x)) → LocalBut M (p >>= f)
 local_bind M p f h rest i = bind_at M p f i (h i) rest
 
-pub on_bind : {A B : Type 0} (M : Fault → ℕ → Type 0) (w : Word) (p : Parser A) (f : A → Parser B) → LocalOn M w p → ((x : A) → LocalBut M (f x)) → LocalOn M w (p >>= f)
+pub on_bind : {A B : Type 0} (M : Fault → ℕ → Type 0) (w : Word) (p : Parser A) (f : A → Parser B) → LocalOn M w p → ((x : A) → LocalBut M (f x))
+    → LocalOn M w (p >>= f)
 on_bind M w p f h rest i is = bind_at M p f i (h i is) rest
 
 pub on_peek : {A : Type 0} (M : Fault → ℕ → Type 0) (f : Word → Parser A) (w : Word) → LocalOn M w (f w) → LocalOn M w (λ i. f (peek i) i)
@@ -164,12 +182,14 @@ weaker M p h i =
 abbrev pub AtWord : Word → Fault → ℕ → Type 0
 AtWord w fault place = IsOfJoining fault × (place ≡ w.place)
 
-first_stands : (w : Word) (front : List Word) (at : Input) (fault : Fault) (place : ℕ) → peek (ahead front at) ≡ w → AtWord w fault place → Stands fault place front (peek at)
+first_stands : (w : Word) (front : List Word) (at : Input) (fault : Fault) (place : ℕ) → peek (ahead front at) ≡ w → AtWord w fault place
+    → Stands fault place front (peek at)
 unfolding peek
 first_stands w [] at fault place is h = inl (h.1 ∙ ap (λ (v : Word). v.place) (sym is))
 first_stands w (v ∷ vs) at fault place is h = inr (h.0, inl (h.1 ∙ ap (λ (v : Word). v.place) (sym is)))
 
-found_ends : {A : Type 0} (w : Word) (r : Outcome A) (front : List Word) (at : Input) → peek (ahead front at) ≡ w → Ends (AtWord w) r front at → Ends Nowhere r front at
+found_ends : {A : Type 0} (w : Word) (r : Outcome A) (front : List Word) (at : Input) → peek (ahead front at) ≡ w → Ends (AtWord w) r front at
+    → Ends Nowhere r front at
 found_ends w (Ok p) front at is h = h
 found_ends w (Err Memory) front at is h = h
 found_ends w (Err (Refused fault place)) front at is (inl h) = inr (first_stands w front at fault place is h)
@@ -185,28 +205,35 @@ pub on_open : {A : Type 0} (M : Fault → ℕ → Type 0) (w : Word) (levels : �
 on_open M w zero p h = on_local M w (refuse TooDeep) (local_refuse M TooDeep)
 on_open M w (suc levels) p h = h
 
-local_joined : {A : Type 0} (w : Word) (r : Result A Fault) (more : A → Parser A) → ((fault : Fault) → r ≡ Err fault → IsOfJoining fault) → ((x : A) → Local (more x)) → LocalBut (AtWord w) (joined w r more)
+local_joined : {A : Type 0} (w : Word) (r : Result A Fault) (more : A → Parser A) → ((fault : Fault) → r ≡ Err fault → IsOfJoining fault)
+    → ((x : A) → Local (more x)) → LocalBut (AtWord w) (joined w r more)
 local_joined w (Ok x) more joint h = weaker (AtWord w) (more x) (h x)
 local_joined w (Err fault) more joint h = local_back (AtWord w) fault w.place (joint fault refl, refl)
 
-module _ {A B O : Type 0} (links : Links A B O) (operand : ℕ → A → O → Parser B) (no_end : (kd : Kind) (o : O) → links.operator kd ≡ Some o → kd ≡ k.End → ⊥) (joint : (o : O) (a : A) (b : B) (fault : Fault) → links.join o a b ≡ Err fault → IsOfJoining fault) (h : (n : ℕ) (a : A) (o : O) → Local (operand n a o)) where
-  pub local_chain : (n : ℕ) (left : A) → Local (chain links operand n left)
-  unfolding chain
-  local_chain zero left = local_peek Nowhere (λ w. go_on (links.operator w.kind) left (λ _. refuse TooDeep)) (λ w. go w (links.operator w.kind))
-    where
-      go : (w : Word) (v : Option O) → LocalOn Nowhere w (go_on v left (λ _. refuse TooDeep))
-      go w None = on_local Nowhere w (pure left) (local_pure Nowhere left)
-      go w (Some o) = on_local Nowhere w (refuse TooDeep) (local_refuse Nowhere TooDeep)
-  local_chain (suc n) left =
-      local_peek Nowhere (λ w. go_on (links.operator w.kind) left (λ o. open_level (links.room n) >> (take_word >> (operand n left o >>= λ right. joined w (links.join o left right) (chain links operand n)))))
-      (λ w. go w (links.operator w.kind) refl (λ x. local_chain n x))
-    where
-      go : (w : Word) (v : Option O) → links.operator w.kind ≡ v → ((x : A) → Local (chain links operand n x))
-          → LocalOn Nowhere w (go_on v left (λ o. open_level (links.room n) >> (take_word >> (operand n left o >>= λ right. joined w (links.join o left right) (chain links operand n)))))
-      go w None is again = on_local Nowhere w (pure left) (local_pure Nowhere left)
-      go w (Some o) is again =
-          let M = AtWord w in
-          let more : B → Parser A = λ right. joined w (links.join o left right) (chain links operand n) in
-          let turn : Parser A = take_word >> (operand n left o >>= more) in
-          stronger w (open_level (links.room n) >> turn) (on_open M w (links.room n) turn (on_bind M w take_word (λ _. operand n left o >>= more) (on_take M w (no_end w.kind o is)) (λ _.
-          local_bind M (operand n left o) more (weaker M (operand n left o) (h n left o)) (λ right. local_joined w (links.join o left right) (chain links operand n) (joint o left right) again))))
+module _ {A B O : Type 0} (links : Links A B O) (operand : ℕ → A → O → Parser B) (no_end : (kd : Kind) (o : O) → links.operator kd ≡ Some o → kd ≡ k.End → ⊥)
+    (joint : (o : O) (a : A) (b : B) (fault : Fault) → links.join o a b ≡ Err fault → IsOfJoining fault) (h : (n : ℕ) (a : A) (o : O) → Local (operand n a o))
+  where
+    pub local_chain : (n : ℕ) (left : A) → Local (chain links operand n left)
+    unfolding chain
+    local_chain zero left = local_peek Nowhere (λ w. go_on (links.operator w.kind) left (λ _. refuse TooDeep)) (λ w. go w (links.operator w.kind))
+      where
+        go : (w : Word) (v : Option O) → LocalOn Nowhere w (go_on v left (λ _. refuse TooDeep))
+        go w None = on_local Nowhere w (pure left) (local_pure Nowhere left)
+        go w (Some o) = on_local Nowhere w (refuse TooDeep) (local_refuse Nowhere TooDeep)
+    local_chain (suc n) left =
+        local_peek Nowhere (λ w. go_on (links.operator w.kind) left
+        (λ o. open_level (links.room n) >> (take_word >> (operand n left o >>= λ right. joined w (links.join o left right) (chain links operand n)))))
+        (λ w. go w (links.operator w.kind) refl (λ x. local_chain n x))
+      where
+        go : (w : Word) (v : Option O) → links.operator w.kind ≡ v → ((x : A) → Local (chain links operand n x))
+            → LocalOn Nowhere w (go_on v left
+            (λ o. open_level (links.room n) >> (take_word >> (operand n left o >>= λ right. joined w (links.join o left right) (chain links operand n)))))
+        go w None is again = on_local Nowhere w (pure left) (local_pure Nowhere left)
+        go w (Some o) is again =
+            let M = AtWord w in
+            let more : B → Parser A = λ right. joined w (links.join o left right) (chain links operand n) in
+            let turn : Parser A = take_word >> (operand n left o >>= more) in
+            stronger w (open_level (links.room n) >> turn)
+            (on_open M w (links.room n) turn (on_bind M w take_word (λ _. operand n left o >>= more) (on_take M w (no_end w.kind o is)) (λ _.
+            local_bind M (operand n left o) more (weaker M (operand n left o) (h n left o))
+            (λ right. local_joined w (links.join o left right) (chain links operand n) (joint o left right) again))))

@@ -10,7 +10,8 @@ use Rattle.reader_laws.proofs.Outcomes.{ok_value}
 use Rattle.reader_laws.proofs.Lawful.{Lawful}
 
 module _ {A B O : Type 0} (links : Links A B O) (operands : ℕ → A → O → List Word → B → Type 0)
-    (same_room : (n m : ℕ) → 0 < links.room n → 0 < links.room m) (same : (n m : ℕ) (a : A) (o : O) (ws : List Word) (y : B) → operands n a o ws y → operands m a o ws y) where
+    (same_room : (n m : ℕ) → 0 < links.room n → 0 < links.room m) (same : (n m : ℕ) (a : A) (o : O) (ws : List Word) (y : B) → operands n a o ws y
+    → operands m a o ws y) where
   abbrev pub Last : A → List Word → A → Type 0
   Last x more y = Link links operands zero (λ v ws z. (ws ≡ []) × (z ≡ v)) x more y
 
@@ -34,12 +35,14 @@ module _ {A B O : Type 0} (links : Links A B O) (operands : ℕ → A → O → 
     is_rest = nothing n l.value l.rest y l.is_rest;
   })
 
-  none_before : (n : ℕ) (left : A) (ws : List Word) (x : A) (more : List Word) (y : A) → (ws ≡ []) × (x ≡ left) → Last x more y → IsChain links operands (suc n) left (ws ++ more) y
+  none_before : (n : ℕ) (left : A) (ws : List Word) (x : A) (more : List Word) (y : A) → (ws ≡ []) × (x ≡ left) → Last x more y
+      → IsChain links operands (suc n) left (ws ++ more) y
   none_before n left ws x more y is l =
       let a = subst (λ (v : A). IsChain links operands (suc n) v more y) is.1 (first n x more y l) in
       subst (λ (vs : List Word). IsChain links operands (suc n) left (vs ++ more) y) (sym is.0) a
 
-  pub chain_more : (n : ℕ) (left : A) (ws : List Word) (x : A) (more : List Word) (y : A) → IsChain links operands n left ws x → Last x more y → IsChain links operands (suc n) left (ws ++ more) y
+  pub chain_more : (n : ℕ) (left : A) (ws : List Word) (x : A) (more : List Word) (y : A) → IsChain links operands n left ws x → Last x more y
+      → IsChain links operands (suc n) left (ws ++ more) y
   chain_more zero left ws x more y is l = none_before zero left ws x more y is l
   chain_more (suc n) left ws x more y (inl is) l = none_before (suc n) left ws x more y is l
   chain_more (suc n) left ws x more y (inr is) l = inr (record {
@@ -62,7 +65,8 @@ unfolding peek
 end_stops goes_on h = h
 
 -- the same words stand for one value
-pub one_value : {A : Type 0} (p : Parser A) (rule : List Word → A → Type 0) (goes_on : Kind → Bool) → Lawful p rule goes_on → goes_on k.End ≡ false → (ws : List Word) (x y : A) → rule ws x → rule ws y → x ≡ y
+pub one_value : {A : Type 0} (p : Parser A) (rule : List Word → A → Type 0) (goes_on : Kind → Bool) → Lawful p rule goes_on → goes_on k.End ≡ false
+    → (ws : List Word) (x y : A) → rule ws x → rule ws y → x ≡ y
 one_value p rule goes_on l ends ws x y hx hy =
     let last : Input = record { words = []; end = 0 } in
     let stops = end_stops goes_on ends in

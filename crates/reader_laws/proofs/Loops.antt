@@ -36,13 +36,15 @@ module _ {A B O : Type 0} (links : Links A B O) (operand : ℕ → A → O → P
   chain_fell n at left o i x below room e reads = chain_go n at left o i (Err x) below room e reads
 
   -- the fault stands at the operator
-  pub chain_clashed : (n at : ℕ) (left : A) (right : B) (o : O) (i j : Input) (fault : Fault) → at < n → 0 < links.room (n - (at + 1)) → links.operator (kind i) ≡ Some o
+  pub chain_clashed : (n at : ℕ) (left : A) (right : B) (o : O) (i j : Input) (fault : Fault) → at < n → 0 < links.room (n - (at + 1))
+      → links.operator (kind i) ≡ Some o
       → operand (n - (at + 1)) left o (next i) ≡ Ok (right, j) → links.join o left right ≡ Err fault
       → chain links operand (n - at) left i ≡ Err (Refused fault (peek i).place)
   chain_clashed n at left right o i j fault below room e reads joins =
       chain_go n at left o i (Ok (right, j)) below room e reads ∙ ap (λ r. joined (peek i) r (chain links operand (n - (at + 1))) j) joins
 
-  pub chain_full : (n at : ℕ) (left : A) (o : O) (i : Input) → n ≤ at → links.operator (kind i) ≡ Some o → chain links operand (n - at) left i ≡ Err (refusal TooDeep i)
+  pub chain_full : (n at : ℕ) (left : A) (o : O) (i : Input) → n ≤ at → links.operator (kind i) ≡ Some o
+      → chain links operand (n - at) left i ≡ Err (refusal TooDeep i)
   unfolding chain
   chain_full n at left o i done e =
       let none : n - at ≡ 0 = omega arith in

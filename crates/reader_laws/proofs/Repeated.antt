@@ -1,5 +1,6 @@
 -- Items, each after a word of one kind: beside the loop that reads them, and as their grammar says.
-use Rattle.std.proofs.Common.{◌≡◌, ℕ, zero, suc, ◌+◌, ◌-◌, ◌<◌, ◌≤◌, Bool, true, false, cond, inl, inr, List, length, Option, Some, None, Result, Ok, Err, refl, sym, ap, subst, ◌∙◌, arith}
+use Rattle.std.proofs.Common.{◌≡◌, ℕ, zero, suc, ◌+◌, ◌-◌, ◌<◌, ◌≤◌, Bool, true, false, cond, inl, inr, List, length, Option, Some, None, Result, Ok, Err, refl}
+use Rattle.std.proofs.Common.{sym, ap, subst, ◌∙◌, arith}
 use Rattle.text_tokens.specs.declared.kind.Kind.{Kind}
 use Rattle.text_tokens.specs.declared.kind.Kind.TheVariants as k
 use Rattle.text_tokens.specs.Kinds.{same_kind}
@@ -42,9 +43,11 @@ module _ {A B : Type 0} (a : Kind) (add : A → B → A) (item : A → Parser B)
   pub went : (n at : ℕ) (left : A) (right : B) (i j : Input) → at < n → same_kind (kind i) a ≡ true → item left (next i) ≡ Ok (right, j)
       → repeated a add item (n - at) left i ≡ repeated a add item (n - (at + 1)) (add left right) j
   unfolding repeated signed
-  went n at left right i j below e reads = chain_went (signed a add) (λ m x o. item x) n at left (add left right) right tt i j below (omega arith) (sign_is a (kind i) true e) reads refl
+  went n at left right i j below e reads = chain_went (signed a add) (λ m x o. item x) n at left (add left right) right tt i j below (omega arith)
+      (sign_is a (kind i) true e) reads refl
 
-  pub fell : (n at : ℕ) (left : A) (i : Input) (x : ReadError) → at < n → same_kind (kind i) a ≡ true → item left (next i) ≡ Err x → repeated a add item (n - at) left i ≡ Err x
+  pub fell : (n at : ℕ) (left : A) (i : Input) (x : ReadError) → at < n → same_kind (kind i) a ≡ true → item left (next i) ≡ Err x
+      → repeated a add item (n - at) left i ≡ Err x
   unfolding repeated signed
   fell n at left i x below e reads = chain_fell (signed a add) (λ m x o. item x) n at left tt i x below (omega arith) (sign_is a (kind i) true e) reads
 
@@ -66,7 +69,8 @@ module _ {A B : Type 0} (a : Kind) (add : A → B → A) (item : A → Parser B)
       (λ m x o. each x) n left
 
 -- what the first word of the items is not, where what follows is not
-pub repeated_first : {A B : Type 0} (a : Kind) (add : A → B → A) (rule : A → List Word → B → Type 0) (f : Kind → Bool) → f a ≡ false → (n : ℕ) (left : A) (ws : List Word) (x : A) (j : Input)
+pub repeated_first : {A B : Type 0} (a : Kind) (add : A → B → A) (rule : A → List Word → B → Type 0) (f : Kind → Bool) → f a ≡ false
+    → (n : ℕ) (left : A) (ws : List Word) (x : A) (j : Input)
     → IsRepeated a add rule n left ws x → f (kind j) ≡ false → f (kind (ahead ws j)) ≡ false
 unfolding signed peek
 repeated_first a add rule f other zero left ws x j is e = subst (λ (vs : List Word). f (kind (ahead vs j)) ≡ false) (sym is.0) e
@@ -76,15 +80,18 @@ repeated_first a add rule f other (suc n) left ws x j (inr is) e =
 
 -- what holds at the beginning, and is kept by each item, holds at the end
 pub repeated_keeps : {A B : Type 0} (a : Kind) (add : A → B → A) (rule : A → List Word → B → Type 0) (P : A → Type 0)
-    → ((x : A) (ws : List Word) (y : B) → rule x ws y → P x → P (add x y)) → (n : ℕ) (left : A) (ws : List Word) (x : A) → P left → IsRepeated a add rule n left ws x → P x
+    → ((x : A) (ws : List Word) (y : B) → rule x ws y → P x → P (add x y)) → (n : ℕ) (left : A) (ws : List Word) (x : A) → P left
+    → IsRepeated a add rule n left ws x → P x
 unfolding signed
 repeated_keeps a add rule P kept zero left ws x p is = subst P (sym is.1) p
 repeated_keeps a add rule P kept (suc n) left ws x p (inl is) = subst P (sym is.1) p
 repeated_keeps {A = A} a add rule P kept (suc n) left ws x p (inr is) =
-    repeated_keeps a add rule P kept n is.value is.rest x (subst P (same (add left is.right) is.value is.joins) (kept left is.front is.right is.is_operand p)) is.is_rest
+    repeated_keeps a add rule P kept n is.value is.rest x (subst P (same (add left is.right) is.value is.joins) (kept left is.front is.right is.is_operand p))
+    is.is_rest
 
 -- at most so many items come
-pub repeated_length : {B : Type 0} (a : Kind) (add : List B → B → List B) (rule : List B → List Word → B → Type 0) → ((xs : List B) (y : B) → length (add xs y) ≡ length xs + 1)
+pub repeated_length : {B : Type 0} (a : Kind) (add : List B → B → List B) (rule : List B → List Word → B → Type 0)
+    → ((xs : List B) (y : B) → length (add xs y) ≡ length xs + 1)
     → (n : ℕ) (left : List B) (ws : List Word) (x : List B) → IsRepeated a add rule n left ws x → length x ≤ length left + n
 unfolding signed
 repeated_length a add rule one zero left ws x is = omega (arith, ap length is.1)
@@ -95,7 +102,9 @@ repeated_length {B = B} a add rule one (suc n) left ws x (inr is) =
     omega arith
 
 -- the first of two begins the whole
-pub both_first : {A B : Type 0} (first : List Word → A → Type 0) (then : A → List Word → B → Type 0) (f : Kind → Bool) → ((ws : List Word) (x : A) (j : Input) → first ws x → f (kind (ahead ws j)) ≡ false)
+pub both_first : {A B : Type 0} (first : List Word → A → Type 0) (then : A → List Word → B → Type 0) (f : Kind → Bool)
+    → ((ws : List Word) (x : A) (j : Input) → first ws x → f (kind (ahead ws j)) ≡ false)
     → (ws : List Word) (y : B) (j : Input) → Both first then ws y → f (kind (ahead ws j)) ≡ false
 both_first first then f begins ws y j is =
-    ap (λ (l : Input). f (kind l)) (ap (λ (vs : List Word). ahead vs j) is.words ∙ sym (ahead_append is.front is.rest j)) ∙ begins is.front is.value (ahead is.rest j) is.is_first
+    ap (λ (l : Input). f (kind l)) (ap (λ (vs : List Word). ahead vs j) is.words ∙ sym (ahead_append is.front is.rest j))
+    ∙ begins is.front is.value (ahead is.rest j) is.is_first

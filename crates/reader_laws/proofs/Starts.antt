@@ -12,18 +12,22 @@ use Rattle.reader_laws.proofs.Local.{LocalOn, Nowhere, local_peek, on_local}
 use Rattle.reader_laws.proofs.Lawful.{Lawful, Found, never, lawful_both, lawful_word}
 
 -- a word, and what follows
-pub word_then : {A B : Type 0} (a : Kind) (reads : Text → Result A Fault) (f : A → Parser B) (then : A → List Word → B → Type 0) (goes_on : Kind → Bool) → (a ≡ k.End → ⊥) → ((x : A) → Lawful (f x) (then x) goes_on)
+pub word_then : {A B : Type 0} (a : Kind) (reads : Text → Result A Fault) (f : A → Parser B) (then : A → List Word → B → Type 0) (goes_on : Kind → Bool)
+    → (a ≡ k.End → ⊥) → ((x : A) → Lawful (f x) (then x) goes_on)
     → Lawful (a_word a reads >>= f) (Both (IsWordOf a reads) then) goes_on
-word_then a reads f then goes_on some h = lawful_both (a_word a reads) f (IsWordOf a reads) then never goes_on (lawful_word a reads some) h (λ u ws y j is e. refl)
+word_then a reads f then goes_on some h = lawful_both (a_word a reads) f (IsWordOf a reads) then never goes_on (lawful_word a reads some) h
+    (λ u ws y j is e. refl)
 
 -- the kind of the first word
 pub word_starts : {A : Type 0} (a : Kind) (reads : Text → Result A Fault) (ws : List Word) (x : A) (j : Input) → IsWordOf a reads ws x → kind (ahead ws j) ≡ a
 unfolding peek
 word_starts a reads ws x j is = ap (λ (vs : List Word). kind (ahead vs j)) is.words ∙ is.is
 
-pub both_starts : {A B : Type 0} (a : Kind) (reads : Text → Result A Fault) (then : A → List Word → B → Type 0) (ws : List Word) (y : B) (j : Input) → Both (IsWordOf a reads) then ws y → kind (ahead ws j) ≡ a
+pub both_starts : {A B : Type 0} (a : Kind) (reads : Text → Result A Fault) (then : A → List Word → B → Type 0) (ws : List Word) (y : B) (j : Input)
+    → Both (IsWordOf a reads) then ws y → kind (ahead ws j) ≡ a
 unfolding peek
-both_starts a reads then ws y j is = ap (λ (vs : List Word). kind (ahead vs j)) (is.words ∙ ap (λ (vs : List Word). vs ++ is.rest) is.is_first.words) ∙ is.is_first.is
+both_starts a reads then ws y j is = ap (λ (vs : List Word). kind (ahead vs j)) (is.words ∙ ap (λ (vs : List Word). vs ++ is.rest) is.is_first.words)
+    ∙ is.is_first.is
 
 -- lawful where the next word is of this kind, of which the rule's first word is
 pub record LawfulAt {A : Type 0} (kd : Kind) (p : Parser A) (rule : List Word → A → Type 0) (goes_on : Kind → Bool) : Type 0 where
@@ -41,7 +45,8 @@ lawful_choice_at by rules goes_on h = record {
   depends = local_peek Nowhere (λ w. by w.kind) (λ w. (h w.kind).depends w);
 }
 
-pub at_first : {A : Type 0} (kd : Kind) (p : Parser A) (rule : List Word → A → Type 0) (goes_on : Kind → Bool) → ((ws : List Word) (x : A) (j : Input) → rule ws x → kind (ahead ws j) ≡ kd) → Lawful p rule goes_on → LawfulAt kd p rule goes_on
+pub at_first : {A : Type 0} (kd : Kind) (p : Parser A) (rule : List Word → A → Type 0) (goes_on : Kind → Bool)
+    → ((ws : List Word) (x : A) (j : Input) → rule ws x → kind (ahead ws j) ≡ kd) → Lawful p rule goes_on → LawfulAt kd p rule goes_on
 at_first kd p rule goes_on starts l = record {
   sound = λ i j x is e. l.sound i j x e;
   complete = l.complete;
@@ -60,7 +65,8 @@ begun kd [] j h = absurd h
 begun kd (w ∷ ws) j h = h
 
 -- any other rule, which takes a word
-pub at_kind : {A : Type 0} (kd : Kind) (p : Parser A) (rule : List Word → A → Type 0) (goes_on : Kind → Bool) → ((ws : List Word) (x : A) → rule ws x → ws ≡ [] → ⊥) → Lawful p rule goes_on → LawfulAt kd p (Starting kd rule) goes_on
+pub at_kind : {A : Type 0} (kd : Kind) (p : Parser A) (rule : List Word → A → Type 0) (goes_on : Kind → Bool)
+    → ((ws : List Word) (x : A) → rule ws x → ws ≡ [] → ⊥) → Lawful p rule goes_on → LawfulAt kd p (Starting kd rule) goes_on
 at_kind kd p rule goes_on some l = record {
   sound = λ i j x is e.
       let f = l.sound i j x e in
@@ -71,5 +77,6 @@ at_kind kd p rule goes_on some l = record {
 }
 
 -- nothing follows
-pub nothing_frees : {A : Type 0} (a : A) (more : Kind → Bool) (ws : List Word) (x : A) (j : Input) → IsNothing a ws x → more (kind j) ≡ false → more (kind (ahead ws j)) ≡ false
+pub nothing_frees : {A : Type 0} (a : A) (more : Kind → Bool) (ws : List Word) (x : A) (j : Input) → IsNothing a ws x → more (kind j) ≡ false
+    → more (kind (ahead ws j)) ≡ false
 nothing_frees a more ws x j is e = subst (λ (vs : List Word). more (kind (ahead vs j)) ≡ false) (sym is.0) e

@@ -21,7 +21,14 @@ local_finish i = go (is_nil i.words) refl
   where
     go : (v : Bool) → is_nil i.words ≡ v → Seen Nowhere finish i
     go true is = record { front = []; at = i; words = refl; ends = rw is refl; again = λ l h. rw (h.nil, is) refl }
-    go false is = record { front = []; at = i; words = refl; ends = rw is (inr (inl refl)); again = λ l h. rw (h.nil, is) (ap (λ (w : Word). let o : Outcome (Unit {0}) = Err (Refused (cond (same_kind w.kind k.Bad) BadToken BadSyntax) w.place) in o) h.word) }
+    go false is = record {
+      front = [];
+      at = i;
+      words = refl;
+      ends = rw is (inr (inl refl));
+      again = λ l h. rw (h.nil, is)
+          (ap (λ (w : Word). let o : Outcome (Unit {0}) = Err (Refused (cond (same_kind w.kind k.Bad) BadToken BadSyntax) w.place) in o) h.word);
+    }
 
 local_end : {A : Type 0} (p : Parser A) → Local p → Local (to_end p)
 local_end p h = local_bind Nowhere p (λ x. finish >> pure x) h (λ x. local_bind Nowhere finish (λ _. pure x) local_finish (λ _. local_pure Nowhere x))
@@ -42,7 +49,8 @@ finish_ok i j u h = go i.words h
     go [] h = refl
     go (w ∷ ws) h = absurd cc
 
-module _ {A : Type 0} (language : Language) (p : Parser A) (rule : List Word → A → Type 0) (goes_on : Kind → Bool) (l : Lawful p rule goes_on) (ends : goes_on k.End ≡ false) where
+module _ {A : Type 0} (language : Language) (p : Parser A) (rule : List Word → A → Type 0) (goes_on : Kind → Bool) (l : Lawful p rule goes_on)
+    (ends : goes_on k.End ≡ false) where
   abbrev whole_value : A → Result A ReadError
   whole_value x = Ok x
 
@@ -64,7 +72,8 @@ module _ {A : Type 0} (language : Language) (p : Parser A) (rule : List Word →
   unfolding read_whole
   whole_read z x is =
       let last : Input = record { words = []; end = length z } in
-      let whole : input language z ≡ ahead (words_of language z) last = ap (λ (ws : List Word). let j : Input = record { words = ws; end = length z } in j) (sym (append-nil (words_of language z))) in
+      let whole : input language z ≡ ahead (words_of language z) last = ap (λ (ws : List Word). let j : Input = record { words = ws; end = length z } in j)
+      (sym (append-nil (words_of language z))) in
       let stops : goes_on (kind last) ≡ false = ap goes_on (kind_end (length z)) ∙ ends in
       let all = l.complete (words_of language z) x last is stops in
       let over = finish_end (length z) in
@@ -84,7 +93,8 @@ module _ {A : Type 0} (language : Language) (p : Parser A) (rule : List Word →
       subst (λ (y : A). rule (words_of language z) y) (ok_value a.value x over.at r.0 over.rest) is
 
   -- no place is told but those of the words that were read
-  told : (fault : Fault) (place : ℕ) (front : List Word) (at : Input) → Ends {A = A} Nowhere (Err (Refused fault place)) front at → Stands fault place front (peek at)
+  told : (fault : Fault) (place : ℕ) (front : List Word) (at : Input) → Ends {A = A} Nowhere (Err (Refused fault place)) front at
+      → Stands fault place front (peek at)
   told fault place front at (inl h) = absurd h
   told fault place front at (inr h) = h
 

@@ -20,7 +20,8 @@ pub record Both {A B : Type 0} (first : List Word → A → Type 0) (then : A �
   pub is_then : then value rest y
 
 -- an operator, what it joins to x, and what follows
-pub record Link {A B O : Type 0} (links : Links A B O) (operands : ℕ → A → O → List Word → B → Type 0) (n : ℕ) (follows : A → List Word → A → Type 0) (left : A) (ws : List Word) (x : A) : Type 0 where
+pub record Link {A B O : Type 0} (links : Links A B O) (operands : ℕ → A → O → List Word → B → Type 0) (n : ℕ) (follows : A → List Word → A → Type 0) (left : A)
+    (ws : List Word) (x : A) : Type 0 where
   pub word : Word
   pub front : List Word
   pub rest : List Word
@@ -86,7 +87,8 @@ pub record IsRefusedAt {A : Type 0} (language : Language) (rule : List Word → 
   pub rest : List Word
   pub words : words_of language z ≡ front ++ rest
   pub at : Stands fault place front (next_word (length z) rest)
-  pub refused : (other : Text) (more : List Word) → words_of language other ≡ front ++ more → next_word (length other) more ≡ next_word (length z) rest → is_nil more ≡ is_nil rest
+  pub refused : (other : Text) (more : List Word) → words_of language other ≡ front ++ more → next_word (length other) more ≡ next_word (length z) rest
+      → is_nil more ≡ is_nil rest
       → (x : A) → rule (words_of language other) x → ⊥
 
 -- the cause of a refusal; want of memory has none

@@ -1,4 +1,5 @@
--- The steps that every reader is made of. A reader is a function on the words that are left: it answers a value and the words that are then left, or the first fault.
+-- The steps that every reader is made of. A reader is a function on the words that are left: it answers a value and the words that are then left, or the first
+-- fault.
 use Rattle.std.specs.Prelude.{◌≡◌, ◌≢◌, ℕ, zero, suc, if◌then◌else◌, List, Option, Some, None, Result, Ok, Err, [], ◌∷◌, ◌+◌}
 use Rattle.std.specs.Str.{bytes_eq}
 use Rattle.text_tokens.specs.declared.kind.Kind.{Kind}

@@ -24,7 +24,8 @@ before z f r e = omega (arith, ap length e, length-append f r)
 pub front_boundary : (z r : List ℕ) (n : ℕ) → IsUtf8 z → IsUtf8 r → chars r ≡ drop n (chars z) → IsCharBoundary z (length z - length r)
 front_boundary z r n u v e =
     let s = seam z r n u v e in
-    subst (λ k. IsCharBoundary z k) (sym (before z (encode_utf8_all (take n (chars z))) r s)) (IsCharBoundary-at_seam z (encode_utf8_all (take n (chars z))) r s v)
+    subst (λ k. IsCharBoundary z k) (sym (before z (encode_utf8_all (take n (chars z))) r s))
+    (IsCharBoundary-at_seam z (encode_utf8_all (take n (chars z))) r s v)
 
 pub front_is : (z r : List ℕ) (n : ℕ) → IsUtf8 z → IsUtf8 r → chars r ≡ drop n (chars z) → take (length z - length r) z ≡ encode_utf8_all (take n (chars z))
 front_is z r n u v e =

@@ -1,5 +1,6 @@
 -- The words of a text whose first word is known.
-use Rattle.std.proofs.Common.{◌≡◌, ℕ, zero, suc, ◌+◌, ◌-◌, ◌<◌, ◌≤◌, Bool, true, false, not, ◌==◌, [], ◌∷◌, length, take, drop, ◌⊎◌, refl, inl, inr, ap, ◌∙◌, arith}
+use Rattle.std.proofs.Common.{◌≡◌, ℕ, zero, suc, ◌+◌, ◌-◌, ◌<◌, ◌≤◌, Bool, true, false, not, ◌==◌, [], ◌∷◌, length, take, drop, ◌⊎◌, refl, inl, inr, ap, ◌∙◌}
+use Rattle.std.proofs.Common.{arith}
 use Rattle.std.proofs.Math.Seq.{drop-nil}
 use Rattle.std.specs.Prelude.{slice_index}
 use Rattle.std.specs.Str.{encode_utf8_all}
@@ -16,7 +17,8 @@ which true = inl refl
 which false = inr refl
 
 -- cutting what is skipped changes no word
-pub words_skip : (language : Language) (end : ℕ) (in_comment : Bool) (z : Text) → words_from language end 0 in_comment z ≡ words_from language end 0 false (skip in_comment z)
+pub words_skip : (language : Language) (end : ℕ) (in_comment : Bool) (z : Text)
+    → words_from language end 0 in_comment z ≡ words_from language end 0 false (skip in_comment z)
 unfolding words_from
 words_skip language end c [] = refl
 words_skip language end true (b ∷ z) = words_skip language end (not (b == 10)) z
@@ -89,13 +91,15 @@ drop_one : (n b : ℕ) (z : Text) → 0 < n → drop (n - 1) z ≡ drop n (b ∷
 drop_one zero b z h = absurd (omega arith)
 drop_one (suc n) b z h = let e : suc n - 1 ≡ n = omega arith in ap (λ k. drop k z) e
 
-pub next_ready : (language : Language) (end : ℕ) (z : Text) → skip false z ≡ z → tail (words_from language end 0 false z) ≡ words_from language end 0 false (drop (word language z).1 z)
+pub next_ready : (language : Language) (end : ℕ) (z : Text) → skip false z ≡ z
+    → tail (words_from language end 0 false z) ≡ words_from language end 0 false (drop (word language z).1 z)
 unfolding words_from
 next_ready language end [] e = rw (drop-nil {A = ℕ} (word language []).1) refl
 next_ready language end (b ∷ z) e =
     let s = starts b z e in
     let one : tail (words_from language end 0 false (b ∷ z)) ≡ words_from language end ((word language (b ∷ z)).1 - 1) false z = rw (s.0, s.1) refl in
-    one ∙ words_drop language end ((word language (b ∷ z)).1 - 1) z ∙ ap (words_from language end 0 false) (drop_one (word language (b ∷ z)).1 b z (word_some language b z))
+    one ∙ words_drop language end ((word language (b ∷ z)).1 - 1) z
+    ∙ ap (words_from language end 0 false) (drop_one (word language (b ∷ z)).1 b z (word_some language b z))
 
 pub ended_none : (language : Language) (end : ℕ) (z : Text) → z ≡ [] → is_nil (words_from language end 0 false z) ≡ true
 unfolding words_from
@@ -109,6 +113,7 @@ ended_some language end b z more e skipped =
     rw (e, s.0, s.1) refl
 
 -- the kind of a word that begins as a name does
-pub word_named : (language : Language) (b : ℕ) (z more : Text) → z ≡ b ∷ more → begins_name b ≡ true → (word language z).0 ≡ keyword language (encode_utf8_all (take (1 + name_len more) z))
+pub word_named : (language : Language) (b : ℕ) (z more : Text) → z ≡ b ∷ more → begins_name b ≡ true
+    → (word language z).0 ≡ keyword language (encode_utf8_all (take (1 + name_len more) z))
 unfolding word
 word_named language b z more e begins = rw (e, begins) refl

@@ -28,7 +28,8 @@ kind_in (row ∷ rows) t other = if bytes_eq t row.0 then row.1 else kind_in row
 -- the keywords of a source text that stand in its declarations
 abbrev pub declaration_words : Table
 declaration_words =
-    (codes "atl", k.Atl) ∷ (codes "size", k.Size) ∷ (codes "in", k.In) ∷ (codes "assume", k.Assume) ∷ (codes "example", k.Example) ∷ (codes "input", k.Input) ∷ (codes "output", k.Output) ∷ []
+    (codes "atl", k.Atl) ∷ (codes "size", k.Size) ∷ (codes "in", k.In) ∷ (codes "assume", k.Assume) ∷ (codes "example", k.Example) ∷ (codes "input", k.Input) ∷
+    (codes "output", k.Output) ∷ []
 
 -- those of the forms that bind or guard
 abbrev pub form_words : Table
@@ -47,7 +48,8 @@ version_two_words = (codes "word", k.Word) ∷ []
 -- the keywords of a script
 abbrev pub script_words : Table
 script_words =
-    (codes "schedule", k.Schedule) ∷ (codes "at", k.At) ∷ (codes "do", k.Do) ∷ (codes "by", k.By) ∷ (codes "default", k.Default) ∷ (codes "goal", k.Goal) ∷ (codes "parallel", k.Parallel) ∷ (codes "and", k.And) ∷ []
+    (codes "schedule", k.Schedule) ∷ (codes "at", k.At) ∷ (codes "do", k.Do) ∷ (codes "by", k.By) ∷ (codes "default", k.Default) ∷ (codes "goal", k.Goal) ∷
+    (codes "parallel", k.Parallel) ∷ (codes "and", k.And) ∷ []
 
 -- the keyword that a name of the language is, or else `Name`
 unfoldable pub keyword : Language → Text → Kind
@@ -77,7 +79,8 @@ symbol c next =
     else (if c == 60 then (if next == 61 then k.LessEqual else k.Less)
     else (if c == 62 then (if next == 61 then k.GreaterEqual else k.Greater)
     else (if c == 61 then (if next == 61 then k.Equal else k.Assign)
-    else (if c == 43 then k.Plus else (if c == 45 then k.Minus else (if c == 42 then k.Star else (if c == 47 then k.Slash else (if c == 37 then k.Percent else k.Bad)))))))))))))))))
+    else (if c == 43 then k.Plus else
+    (if c == 45 then k.Minus else (if c == 42 then k.Star else (if c == 47 then k.Slash else (if c == 37 then k.Percent else k.Bad)))))))))))))))))
 
 -- how many characters a symbol has
 abbrev pub symbol_len : Kind → ℕ

@@ -34,7 +34,8 @@ unfoldable pub word : Language → Text → Kind × ℕ
 word language [] = (k.End, 0)
 word language (c ∷ z) =
     if begins_name c then (keyword language (encode_utf8_all (take (1 + name_len z) (c ∷ z))), 1 + name_len z)
-    else (if is_ascii_digit c then (k.Number, 1 + digits_len z) else (symbol_of language c (slice_index z 0), symbol_len (symbol_of language c (slice_index z 0))))
+    else (if is_ascii_digit c then (k.Number, 1 + digits_len z) else
+    (symbol_of language c (slice_index z 0), symbol_len (symbol_of language c (slice_index z 0))))
 
 -- the characters from the first word on; a comment goes to the end of its line
 abbrev pub skip : Bool → Text → Text
