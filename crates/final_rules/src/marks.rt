@@ -1,6 +1,6 @@
 //! Parallel marks: each a gen without lets, none at, inside or around one that is marked before.
 
-ghost use Rattle.std.specs.Prelude.{◌≡◌, ◌&&◌, ◌||◌, ◌==◌, [], slice_get, IfOk, Some};
+ghost use Rattle.std.specs.Prelude.{◌≡◌, ◌||◌, ◌==◌, [], IfOk, Some};
 ghost use Rattle.std.specs.Option.{option_and_then, option_copied};
 ghost use Rattle.final_rules.specs.Rules.{any_nested, begins, child_at, gen_body, has_let, mark_fault, mark_fault_at, marked_part, nested, part_at};
 

@@ -1,7 +1,6 @@
 //! Reads: tensor variables under indices.
 
-ghost use Rattle.std.specs.Prelude.{◌≡◌, ◌++◌, ◌∷◌, [], IfOk};
-ghost use Rattle.final_rules.specs.Form.{each_shifted, one_deeper};
+ghost use Rattle.std.specs.Prelude.{◌≡◌, IfOk};
 ghost use Rattle.final_rules.specs.Reads.{reading};
 
 use affine_index::Aff;
