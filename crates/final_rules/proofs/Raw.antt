@@ -5,11 +5,10 @@ use Rattle.affine_index.specs.Form.{literal_form}
 use Rattle.affine_index.specs.Product.{product_of}
 use Rattle.affine_index.specs.Sum.{sum_of}
 use Rattle.affine_index.specs.declared.form.Items.{Items}
-use Rattle.reindexer.specs.Indices.{framed, indices_after}
+use Rattle.reindexer.specs.Indices.{indices_after}
 use Rattle.reindexer.specs.Limited.{Limited, and_then, limited}
-use Rattle.reindexer.specs.Places.{limited_frame, limited_indices, one_of_two, row_place, row_place_from}
-use Rattle.reindexer.specs.declared.frame.Frame.{Frame}
-use Rattle.reindexer.proofs.IndexLaws.{first_ok, frame_is, indices_are, limited_is}
+use Rattle.reindexer.specs.Places.{limited_indices, one_of_two, row_place, row_place_from}
+use Rattle.reindexer.proofs.IndexLaws.{first_ok, indices_are, limited_is}
 use Rattle.region_plan.specs.Needed.{words_form, words_from}
 use Rattle.term_tree.specs.Shape.{Extents}
 use Rattle.final_rules.specs.declared.read.Read.{Read}
@@ -18,13 +17,6 @@ use Rattle.final_rules.specs.Printed.{behind, read_place, store_place}
 
 same_answer : {A : Type 0} (x y : A) (r : Limited A) → r ≡ Ok x → r ≡ Ok y → x ≡ y
 same_answer x y r h k = cc
-
--- indices that are taken one by one are these, if all are within the limits
-abbrev pub Tracks : Limited (List Items) → List Items → Type 0
-Tracks ls xs = (zs : List Items) → ls ≡ Ok zs → xs ≡ zs
-
-pub step_tracks : (f : Frame) (ls : Limited (List Items)) (xs : List Items) → Tracks ls xs → Tracks (and_then ls (limited_frame f)) (framed f xs)
-step_tracks f ls xs t zs e = let q = first_ok ls (limited_frame f) zs e in ap (framed f) (t q.0 q.1) ∙ frame_is f q.0 zs q.2
 
 pub plain-raw : (x z : Items) → limited x ≡ Ok z → x ≡ z
 plain-raw x z e = limited_is x z e

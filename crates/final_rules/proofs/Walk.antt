@@ -44,12 +44,11 @@ use Rattle.final_rules.specs.declared.spot.Around.{Around}
 use Rattle.final_rules.specs.declared.spot.Around.TheVariants.{Loop, Swapped, Joined, Tiled, Later, Without, Before}
 use Rattle.final_rules.specs.Places.{Place, Site, nowhere, site_at, shapes, shape_at, first_of, rest_of, length_form, in_gen, in_sum, in_guard, under_node}
 use Rattle.final_rules.specs.Places.{in_definition, in_body, on_right, in_flatten, in_truncr, frame_of, read_form, store_form}
-use Rattle.final_rules.specs.Goals.{Claim, one, below, index_claims, read_claim, read_claims, word_claims, drop_claim, kept_by, of_first_index, drops}
+use Rattle.final_rules.specs.Goals.{Claim, one, below, index_claims, read_claim, read_claims, word_claims, drop_claim, kept_by, drops}
 use Rattle.final_rules.specs.Goals.{drop_claims, leaf_claims, full_read_claims, full_read_claims_if, claims_at, read_claims_if}
-use Rattle.final_rules.proofs.Raw.{Tracks, step_tracks, plain-raw, read-raw, store-raw, words-raw}
-use Rattle.reindexer.specs.Limited.{Limited, and_then}
-use Rattle.reindexer.specs.Places.{limited_frame}
-use Rattle.reindexer.proofs.IndexLaws.{first_ok, limited_is}
+use Rattle.final_rules.proofs.Raw.{plain-raw, read-raw, store-raw, words-raw}
+use Rattle.reindexer.specs.Indices.{framed}
+use Rattle.reindexer.proofs.IndexLaws.{limited_is}
 use Rattle.final_rules.specs.Printed.{Printed, largest_index, read_place_if, length_printed, scope_onto, scope_of, plain, comparisons, read_place, store_place}
 use Rattle.final_rules.specs.Printed.{word_printed, leaf_printed, full_read_printed, full_read_printed_if, printed_of, at_least_one, greatest}
 use Rattle.final_rules.specs.Owed.{either, Exactly, EachExactly, Numbered, ReadFits, ReadFitsIf, WordFits, StoreFits, LeafFits, FullReadFits, FullReadFitsIf}
@@ -413,71 +412,52 @@ module _ (s maxima : List ℕ) where
       minus a b = omega (arith, ints)
 
   -- what a truncation claims of the first of these indices
-  drop-holds : (path : List PathFact) (y : List ℕ) (ls : Limited (List Items)) (x : Items) (xs : List Items) (f : Items → Items) → Tracks ls (x ∷ xs)
-      → ClaimHolds (drop_claim path ls f) → PathNormal path → PathHolds s y path → NonNeg y (f x)
-  drop-holds path y ls x xs f t g k h =
-      claim_holds (drop_claim path ls f) (f x) (λ v e. let q = first_ok ls (of_first_index f) v e in limited_is (f x) v (ap (of_first_index f) (t q.0 q.1)
-      ∙ q.2)) g y k h
+  drop-holds : (path : List PathFact) (y : List ℕ) (x : Items) (xs : List Items) (f : Items → Items) → ClaimHolds (drop_claim path (x ∷ xs) f) → PathNormal path
+      → PathHolds s y path → NonNeg y (f x)
+  drop-holds path y x xs f g k h = claim_holds (drop_claim path (x ∷ xs) f) (f x) (limited_is (f x)) g y k h
 
-  pub none_dropped : (path : List PathFact) (y : List ℕ) → PathNormal path → PathHolds s y path
-      → (fs : List Around) (ls : Limited (List Items)) (xs : List Items)
-      → Tracks ls xs → Ready fs (length xs) → Every (NonNeg y) xs
-      → Every ClaimHolds (drops path fs ls) → NoneDropped s y (map (frame_of (binders path)) fs) xs
-  none_dropped path y k h [] ls xs t w n g = tt
-  none_dropped path y k h (f ∷ fs) ls xs t w n g =
-      let fr = frame_of (binders path) f in
-      let gs = every_parts ClaimHolds (drops path fs (and_then ls (limited_frame fr))) (kept_by f path ls) g in
-      by f xs t w n (λ zs d. none_dropped path y k h fs (and_then ls (limited_frame fr)) zs d) gs.0 gs.1
+  pub none_dropped : (path : List PathFact) (y : List ℕ) → PathNormal path → PathHolds s y path → (fs : List Around) (xs : List Items) → Ready fs (length xs)
+      → Every (NonNeg y) xs → Every ClaimHolds (drops path fs xs) → NoneDropped s y (map (frame_of (binders path)) fs) xs
+  none_dropped path y k h [] xs w n g = tt
+  none_dropped path y k h (f ∷ fs) xs w n g =
+      let gs = every_parts ClaimHolds (drops path fs (framed (frame_of (binders path) f) xs)) (kept_by f path xs) g in
+      by f xs w n (none_dropped path y k h fs) gs.0 gs.1
     where
-      next : Around → Limited (List Items)
-      next f = and_then ls (limited_frame (frame_of (binders path) f))
-
-      by : (f : Around) (xs : List Items) → Tracks ls xs → Ready (f ∷ fs) (length xs) → Every (NonNeg y) xs
-          → ((zs : List Items) → Tracks (next f) zs → Ready fs (length zs) → Every (NonNeg y) zs → Every ClaimHolds (drops path fs (next f))
+      by : (f : Around) (xs : List Items) → Ready (f ∷ fs) (length xs) → Every (NonNeg y) xs
+          → ((zs : List Items) → Ready fs (length zs) → Every (NonNeg y) zs → Every ClaimHolds (drops path fs zs)
           → NoneDropped s y (map (frame_of (binders path)) fs) zs)
-          → Every ClaimHolds (drops path fs (next f)) → Every ClaimHolds (kept_by f path ls) → NoneDropped s y (map (frame_of (binders path)) (f ∷ fs)) xs
-      by (Loop d) xs t w n rest g c =
-          let v = var_form (binders path - 1 - d) in (
-            above (items_value s y v) (var-nonneg y (binders path - 1 - d)),
-            rest (v ∷ xs) (step_tracks (frame_of (binders path) (Loop d)) ls xs t) w
-                (var-nonneg y (binders path - 1 - d), n) g,
-          )
-      by Swapped [] t w n rest g c = absurd w
-      by Swapped (x ∷ []) t w n rest g c = absurd w
-      by Swapped (x ∷ z ∷ xs) t w n rest g c = rest (z ∷ x ∷ xs) (step_tracks (frame_of (binders path) Swapped) ls (x ∷ z ∷ xs) t) w (n.1.0, (n.0, n.1.1)) g
-      by (Joined m) [] t w n rest g c = absurd w
-      by (Joined m) (x ∷ []) t w n rest g c = absurd w
-      by (Joined m) (x ∷ z ∷ xs) t w n rest g c =
-          rest (sum_of (product_of x m) z ∷ xs) (step_tracks (frame_of (binders path) (Joined m)) ls (x ∷ z ∷ xs) t) w.1 (
-            sum-nonneg y (product_of x m) z
-                (product-nonneg y x m n.0 (w.0 y)) n.1.0,
-            n.1.1,
-          ) g
-      by (Tiled q) [] t w n rest g c = absurd w
-      by (Tiled q) (x ∷ xs) t w n rest g c =
-          rest (quotient_of x q ∷ remainder_of x q ∷ xs) (step_tracks (frame_of (binders path) (Tiled q)) ls (x ∷ xs) t) w.1 (
-            quotient-nonneg y x q w.0 n.0,
-            (remainder-nonneg y x q w.0 n.0, n.1),
-          ) g
-      by (Later a) [] t w n rest g c = absurd w
-      by (Later a) (x ∷ xs) t w n rest g c =
+          → Every ClaimHolds (drops path fs (framed (frame_of (binders path) f) xs)) → Every ClaimHolds (kept_by f path xs)
+          → NoneDropped s y (map (frame_of (binders path)) (f ∷ fs)) xs
+      by (Loop d) xs w n rest g c =
+          let v = var_form (binders path - 1 - d) in
+          let u = var-nonneg y (binders path - 1 - d) in
+          (above (items_value s y v) u, rest (v ∷ xs) w (u, n) g)
+      by Swapped [] w n rest g c = absurd w
+      by Swapped (x ∷ []) w n rest g c = absurd w
+      by Swapped (x ∷ z ∷ xs) w n rest g c = rest (z ∷ x ∷ xs) w (n.1.0, (n.0, n.1.1)) g
+      by (Joined m) [] w n rest g c = absurd w
+      by (Joined m) (x ∷ []) w n rest g c = absurd w
+      by (Joined m) (x ∷ z ∷ xs) w n rest g c =
+          rest (sum_of (product_of x m) z ∷ xs) w.1 (sum-nonneg y (product_of x m) z (product-nonneg y x m n.0 (w.0 y)) n.1.0, n.1.1) g
+      by (Tiled q) [] w n rest g c = absurd w
+      by (Tiled q) (x ∷ xs) w n rest g c =
+          rest (quotient_of x q ∷ remainder_of x q ∷ xs) w.1 (quotient-nonneg y x q w.0 n.0, (remainder-nonneg y x q w.0 n.0, n.1)) g
+      by (Later a) [] w n rest g c = absurd w
+      by (Later a) (x ∷ xs) w n rest g c =
           let v = sum-nonneg y x a n.0 (w.0 y) in
-          (above (items_value s y (sum_of x a)) v, rest (sum_of x a ∷ xs) (step_tracks (frame_of (binders path) (Later a)) ls (x ∷ xs) t) w.1 (v, n.1) g)
-      by (Without a) [] t w n rest g c = absurd w
-      by (Without a) (x ∷ xs) t w n rest g c =
+          (above (items_value s y (sum_of x a)) v, rest (sum_of x a ∷ xs) w.1 (v, n.1) g)
+      by (Without a) [] w n rest g c = absurd w
+      by (Without a) (x ∷ xs) w n rest g c =
           let z = sum_of x (scaled (negsuc 0) a) in
-          let v : NonNeg y z = drop-holds path y ls x xs (λ u. difference_of u a) t c.0 k h in
-          (above (items_value s y z) v, rest (z ∷ xs) (step_tracks (frame_of (binders path) (Without a)) ls (x ∷ xs) t) w (v, n.1) g)
-      by (Before m) [] t w n rest g c = absurd w
-      by (Before m) (x ∷ xs) t w n rest g c = (
-        above (items_value s y (below m x)) (drop-holds path y ls x xs (below m) t c.0 k h),
-        rest (x ∷ xs) (step_tracks (frame_of (binders path) (Before m)) ls (x ∷ xs) t) w n g,
-      )
+          let v : NonNeg y z = drop-holds path y x xs (λ u. difference_of u a) c.0 k h in
+          (above (items_value s y z) v, rest (z ∷ xs) w (v, n.1) g)
+      by (Before m) [] w n rest g c = absurd w
+      by (Before m) (x ∷ xs) w n rest g c = (above (items_value s y (below m x)) (drop-holds path y x xs (below m) c.0 k h), rest (x ∷ xs) w n g)
 
   store_fits : (p : Place) (r y : List ℕ) → Ready p.spot.around 0 → Every ClaimHolds (drop_claims p.spot) → PrintedHolds (store_place p) → Here p r y
       → StoreFits s p r y
   store_fits p r y w g f h = (
-    none_dropped p.spot.path y h.kept h.holds p.spot.around (Ok []) [] (λ zs e. cc) w tt g,
+    none_dropped p.spot.path y h.kept h.holds p.spot.around [] w tt g,
     exact-here p r y (store_place p) (store_form p) refl (store-raw p) f h,
   )
 

@@ -10,8 +10,8 @@ use Rattle.fact_list.specs.declared.facts.Facts.{Facts}
 use Rattle.fact_list.specs.declared.facts.PathFact.{PathFact}
 use Rattle.fact_list.specs.declared.facts.PathFact.TheVariants.{Bound, Holds}
 use Rattle.fact_list.specs.Facts.{binders, where_normal}
-use Rattle.reindexer.specs.Limited.{Limited, and_then, limited}
-use Rattle.reindexer.specs.Places.{limited_frame}
+use Rattle.reindexer.specs.Indices.{framed}
+use Rattle.reindexer.specs.Limited.{Limited, limited}
 use Rattle.final_rules.specs.declared.goal.Goal.{Goal}
 use Rattle.final_rules.specs.declared.goal.GoalKind.{GoalKind}
 use Rattle.final_rules.specs.declared.goal.GoalKind.TheVariants.{Read as OfRead, Drop as OfDrop}
@@ -22,7 +22,7 @@ use Rattle.final_rules.specs.declared.read.Read.{Read}
 use Rattle.final_rules.specs.Form.{read_under, one_deeper, adds_words}
 use Rattle.final_rules.specs.Places.{Place, shapes, on_path, inside, one_gen, alone, extents_under, right_of, joined_by, before_end, frame_of}
 
--- a form that has to be at least 0 where the path holds, unless a form on the way to it breaks a limit
+-- a form that has to be at least 0 where the path holds, unless it breaks a limit
 pub record Claim : Type 0 where
   pub kind : GoalKind
   pub form : Limited Items
@@ -66,22 +66,22 @@ abbrev pub of_first_index : (Items → Items) → List Items → Limited Items
 of_first_index f [] = Ok (literal_form (pos 0))
 of_first_index f (x ∷ xs) = limited (f x)
 
-abbrev pub drop_claim : List PathFact → Limited (List Items) → (Items → Items) → Claim
-drop_claim path xs f = record { kind = OfDrop; form = and_then xs (of_first_index f); path = path }
+abbrev pub drop_claim : List PathFact → List Items → (Items → Items) → Claim
+drop_claim path xs f = record { kind = OfDrop; form = of_first_index f xs; path = path }
 
 -- the first index that a truncation is given is one that it keeps
-abbrev pub kept_by : Around → List PathFact → Limited (List Items) → List Claim
+abbrev pub kept_by : Around → List PathFact → List Items → List Claim
 kept_by (Without a) path xs = drop_claim path xs (λ x. difference_of x a) ∷ []
 kept_by (Before m) path xs = drop_claim path xs (below m) ∷ []
 kept_by f path xs = []
 
--- so at each truncation around a leaf, the outermost first
-abbrev pub drops : List PathFact → List Around → Limited (List Items) → List Claim
+-- so at each truncation around a leaf, the outermost first; forms on the way to an index have no limits
+abbrev pub drops : List PathFact → List Around → List Items → List Claim
 drops path [] xs = []
-drops path (f ∷ fs) xs = drops path fs (and_then xs (limited_frame (frame_of (binders path) f))) ++ kept_by f path xs
+drops path (f ∷ fs) xs = drops path fs (framed (frame_of (binders path) f) xs) ++ kept_by f path xs
 
 abbrev pub drop_claims : Spot → List Claim
-drop_claims q = drops q.path q.around (Ok [])
+drop_claims q = drops q.path q.around []
 
 abbrev pub leaf_claims : Term → Spot → List Extents → List Claim
 leaf_claims e q ts = drop_claims q ++ word_claims e q.path ts

@@ -18,7 +18,7 @@ pub enum GoalKind {
     Drop,
 }
 
-/// A form that has to be at least 0 where the facts hold. None where it breaks a limit of normal forms, or one on the way to it does.
+/// A form that has to be at least 0 where the facts hold. None where it breaks a limit of normal forms.
 #[derive(Drop)]
 pub struct Goal {
     pub kind: GoalKind,

@@ -6,7 +6,7 @@ use Rattle.shape_rules.specs.Meant.{input_extents}
 use Rattle.term_tree.specs.Counts.{node_count}
 use Rattle.term_tree.specs.Limits.{every_form}
 use Rattle.term_tree.specs.Meaning.{Bound, dims}
-use Rattle.term_tree.specs.Modules.{Allowed, AreInputs, IsSound, inputs_bound, module_den}
+use Rattle.term_tree.specs.Modules.{Allowed, AreInputs, IsSound, inputs_bound, module_den, module_scoped}
 use Rattle.term_tree.specs.Tensors.{Tensor}
 use Rattle.term_tree.specs.declared.term.Module.{Module}
 use Rattle.term_tree.specs.declared.term.OutputDecl.{OutputDecl}
@@ -37,8 +37,9 @@ KnownThere =
 abbrev pub SameExtents : Module → Module → List ℕ → Type 0
 SameExtents m m' s = map (λ o. dims o.term s (input_extents m s)) m'.outputs ≡ map (λ o. dims o.term s (input_extents m s)) m.outputs
 
--- a term that keeps the meaning at a focus keeps that of the module, and leaves it sound where the shape rules hold
+-- a term that keeps the meaning at a focus keeps that of the module, and leaves it well scoped, and sound where the shape rules hold
 pub record IsKept (m m' : Module) : Type 0 where
+  pub scoped : module_scoped m' ≡ true
   pub extents : (s : List ℕ) → Allowed m s → SameExtents m m' s
   pub meaning : (s : List ℕ) → Allowed m s → (inputs : List Tensor) → AreInputs m.inputs s inputs → module_den m' s inputs ≡ module_den m s inputs
   pub sound : ShapesHold m' → IsSound m'
