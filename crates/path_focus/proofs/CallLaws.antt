@@ -1,6 +1,6 @@
 -- What the calls answer, from what their parts do.
-use Rattle.std.proofs.Common.{◌≡◌, ℕ, zero, suc, ◌+◌, ◌<◌, ◌≤◌, ◌-◌, List, [], ◌∷◌, ◌++◌, length, get_or, take, drop, append_assoc, add-one, map, refl, ap, sym}
-use Rattle.std.proofs.Common.{◌∙◌, subst, arith, Some, None, Ok, Err, IsOk, IfOk, true}
+use Rattle.std.proofs.Common.{◌≡◌, ℕ, zero, suc, ◌+◌, ◌<◌, ◌≤◌, ◌-◌, List, [], ◌∷◌, ◌++◌, length, get_or, take, drop, append_assoc, add-one, refl, ap, sym}
+use Rattle.std.proofs.Common.{◌∙◌, subst, arith, Some, None, Ok, Err, IsOk, IfOk}
 use Rattle.std.specs.Prelude.{MatchResult, Option, Result, slice_get}
 use Rattle.std.specs.Option.{option_and_then, option_map}
 use Rattle.shape_rules.proofs.ModuleLaws.{module_free, module_parts}
@@ -18,11 +18,11 @@ use Rattle.path_focus.specs.Laws.{IsLimited, IsOrdered, IsThere, KeepsModule}
 use Rattle.path_focus.specs.Trail.{MayGo, Reaches, filled_level, focus_by, start_of, trailed}
 use Rattle.path_focus.specs.declared.place.Focus.{Focus}
 use Rattle.path_focus.specs.declared.place.PathRefusal.{PathRefusal}
-use Rattle.path_focus.specs.declared.place.PathRefusal.TheVariants.{NoSuchPath, Memory}
+use Rattle.path_focus.specs.declared.place.PathRefusal.TheVariants.{Memory}
 use Rattle.path_focus.specs.declared.trail.Trail.{Trail}
 use Rattle.path_focus.proofs.FocusLaws.{focus_is_proper}
 use Rattle.path_focus.proofs.ModuleLaws.{length-map, output_scope, plug_keeps, some_at}
-use Rattle.path_focus.proofs.TrailLaws.{focus_told, goes_nowhere, goes_on, opened_at, opened_filled, reached_way, steps_are}
+use Rattle.path_focus.proofs.TrailLaws.{focus_told, goes_on, opened_at, opened_filled, reached_way, steps_are}
 
 -- the trail may go into the term of an output
 pub may_start : (m : Module) → IsSound m → IsLimited m → (k : ℕ) (o : OutputDecl) → slice_get m.outputs k ≡ Some o → MayGo (start_of (input_shapes m)) o.term

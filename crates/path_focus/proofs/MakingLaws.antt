@@ -29,7 +29,7 @@ use Rattle.term_tree.specs.Shape.{Extents, shape_of, tiles}
 use Rattle.term_tree.specs.declared.term.Term.{Term}
 use Rattle.path_focus.specs.Numbers.{GoalsFit}
 use Rattle.path_focus.proofs.PutLaws.{put_extents, put_goals, put_shape}
-use Rattle.path_focus.specs.Making.{in_tile, lowered, rest_below, tile_rest, with_index}
+use Rattle.path_focus.specs.Making.{in_tile, rest_below, tile_rest, with_index}
 
 one-normal : is_normal (literal_form (pos 1)) ≡ true
 one-normal = and_from (is_ordered (literal_form (pos 1))) _ (literal-ordered (pos 1))

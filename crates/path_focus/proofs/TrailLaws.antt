@@ -1,10 +1,9 @@
 -- The code's way down to a place and back, level by level, is that of the definitions.
-use Rattle.std.proofs.Common.{◌≡◌, ℕ, zero, suc, ◌+◌, ◌≤◌, ◌^◌, ◌-◌, List, [], ◌∷◌, ◌++◌, length, get_or, take, drop, append_assoc, refl, ap, sym, ◌∙◌, subst}
-use Rattle.std.proofs.Common.{arith, add-one, Some, None, Ok, Err, IsOk, Bool, true, false, ◌==◌, if◌then◌else◌}
-use Rattle.std.specs.Prelude.{Option, IfSome, Result, map}
+use Rattle.std.proofs.Common.{◌≡◌, ℕ, suc, ◌+◌, ◌≤◌, ◌-◌, List, [], ◌∷◌, ◌++◌, length, get_or, take, drop, append_assoc, refl, ap, sym, ◌∙◌, subst}
+use Rattle.std.proofs.Common.{arith, add-one, Some, None, Err, IsOk, Bool, true, false, ◌==◌, if◌then◌else◌}
+use Rattle.std.specs.Prelude.{Option, IfSome, map}
 use Rattle.std.proofs.lemmas.List.{append-nil}
 use Rattle.std.specs.Option.{option_and_then, option_map}
-use Rattle.affine_index.specs.declared.aff.Aff.{Aff}
 use Rattle.affine_index.specs.Normal.{is_normal}
 use Rattle.binders.specs.Answers.{IsWithinLimits, NeverRefuses, no_refusals}
 use Rattle.binders.specs.Maps.{mapped}
@@ -15,7 +14,7 @@ use Rattle.binders.proofs.ReachLaws.{shift_within}
 use Rattle.binders.proofs.ShiftLaws.{shift-fits, shift-short}
 use Rattle.fact_list.specs.Facts.{binders}
 use Rattle.shape_rules.specs.Scopes.{all_free, given}
-use Rattle.term_tree.specs.Counts.{node_count, node_depth}
+use Rattle.term_tree.specs.Counts.{node_count}
 use Rattle.term_tree.specs.Limits.{every_form}
 use Rattle.term_tree.specs.Modules.{input_shapes}
 use Rattle.term_tree.specs.Scope.{term_scoped}
@@ -33,10 +32,9 @@ use Rattle.path_focus.specs.Frames.{Frame, OfIndex, OfGen, OfSum, OfGuard, OfDef
 use Rattle.path_focus.specs.Frames.{ConcatLeft, ConcatRight, OfFlatten, OfSplit, OfTranspose, OfTruncL, OfTruncR, OfPadL, OfPadR}
 use Rattle.path_focus.specs.Frames.{filled, Opened, opened, opened_level, Way, behind, way, refilled}
 use Rattle.path_focus.specs.Places.{Around, Definition, at_end, below, moved_lets, no_way, under_index}
-use Rattle.path_focus.specs.Trail.{MayEnter, MayGo, MayLeave, MayMove, MayShape, Reaches, entered, entered_level, filled_level, focus_by, left, left_level}
+use Rattle.path_focus.specs.Trail.{MayEnter, MayGo, MayLeave, Reaches, entered, entered_level, filled_level, focus_by, left, left_level}
 use Rattle.path_focus.specs.Trail.{moved_let, start_of, trailed}
 use Rattle.path_focus.specs.Focus.{focus_at}
-use Rattle.path_focus.specs.declared.place.BoundLet.{BoundLet}
 use Rattle.path_focus.specs.declared.trail.Trail.{Trail}
 use Rattle.path_focus.proofs.ChildLaws.{child_scoped, child_shaped, tensors_in, vars_in}
 use Rattle.path_focus.proofs.CountLaws.{child_fewer, depth_nodes, way_fewer}

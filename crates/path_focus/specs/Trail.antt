@@ -1,7 +1,5 @@
 -- The way down to a place, one node at a time: what is known there, and on the way back the definitions of the lets above.
 use Rattle.std.specs.Prelude.{◌≡◌, ℕ, ◌+◌, ◌≤◌, List, [], ◌∷◌, ◌++◌, length, map, true, IsOk, Ok, Err, Result, Option, Some, None, ◌==◌, if◌then◌else◌}
-use Rattle.affine_index.specs.declared.aff.Aff.{Aff}
-use Rattle.affine_index.specs.declared.cond.Cond.{Cond}
 use Rattle.binders.specs.Answers.{IsWithinReach}
 use Rattle.binders.specs.Maps.{mapped}
 use Rattle.binders.specs.PlainMaps.{shift_map, shift_reach}
@@ -14,7 +12,7 @@ use Rattle.term_tree.specs.Goals.{extents_or_none}
 use Rattle.term_tree.specs.Scope.{term_scoped}
 use Rattle.term_tree.specs.Shape.{Extents, shape_of}
 use Rattle.term_tree.specs.declared.term.Module.{Module}
-use Rattle.term_tree.specs.declared.term.Term.{Term, out-Term}
+use Rattle.term_tree.specs.declared.term.Term.{Term}
 use Rattle.term_tree.specs.declared.term.Term.TheOpen.{Term-F}
 use Rattle.term_tree.specs.declared.term.Term.TheVariants as variant
 use Rattle.path_focus.specs.Frames.{Frame, OfGen, OfSum, OfGuard, OfBody, Way}

@@ -1,8 +1,8 @@
-use Rattle.std.proofs.Common.{◌≡◌, Some, rules, sym, subst}
+use Rattle.std.proofs.Common.{◌≡◌, Some, rules, subst}
 use Rattle.std.specs.Prelude.{All, slice_get}
 use Rattle.path_focus.specs.Laws.{HasOrdered, IsThere}
 use Rattle.path_focus.specs.Focus.{focus_of}
-use Rattle.path_focus.proofs.CallLaws.{in_output, may_start, proper_there}
+use Rattle.path_focus.proofs.CallLaws.{may_start, proper_there}
 use Rattle.path_focus.proofs.reaching.focus.Goals as goal
 
 pub found-requires : goal.found-requires

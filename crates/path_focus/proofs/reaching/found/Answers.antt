@@ -1,4 +1,4 @@
-use Rattle.std.proofs.Common.{◌≡◌, map, ap, ◌∙◌, rules}
+use Rattle.std.proofs.Common.{◌≡◌, rules}
 use Rattle.path_focus.specs.Trail.{start_of}
 use Rattle.term_tree.specs.Modules.{input_shapes}
 use Rattle.path_focus.specs.Frames.{way}

@@ -1,4 +1,3 @@
-use Rattle.std.proofs.Common.{◌≡◌, ◌<◌, length, true, rules}
 use Rattle.affine_index.specs.Normal.{is_normal, is_ordered}
 use Rattle.affine_index.proofs.ArithmeticLaws.{normal-ordered}
 use Rattle.shape_rules.proofs.ModuleLaws.{before_more}
