@@ -1,20 +1,27 @@
--- From what the reader, the lowering and the printer say to what the compiler says.
-use Rattle.std.proofs.Common.{◌≡◌, ◌≢◌, ℕ, List, refl, ap, sym, ◌∙◌, MatchResult, IfOk, Ok, Err}
+-- From what the reader, the rules of modules, the lowering and the printer say to what the compiler says.
+use Rattle.std.proofs.Common.{◌≡◌, ◌≢◌, inl, inr, ℕ, List, Bool, true, false, refl, ap, sym, subst, ◌∙◌, MatchResult, IfOk, Ok, Err, Some, None}
 use Rattle.std.specs.Prelude.{IsErrOf}
+use Rattle.std.specs.declared.option.Option.{Option}
 use Rattle.std.specs.declared.result.Result.{Result}
 use Rattle.std.specs.declared.vec.Vec.{Vec}
 use Rattle.term_tree.specs.declared.term.Module.{Module}
 use Rattle.loop_lang.specs.declared.stmt.Prog.{Prog}
 use Rattle.loop_lang.specs.Form.{IsWellFormed}
+use Rattle.admission.specs.Admission.{Accepted, admission_fault}
+use Rattle.admission.specs.Admission.{Tells as Judges}
+use Rattle.admission.specs.declared.fault.AdmissionFault.{AdmissionFault}
+use Rattle.admission.specs.declared.fault.AdmissionFault.TheVariants as admission
+use Rattle.small_form.specs.Tested.{is_small}
+use Rattle.source_grammar.specs.Source.{SourceText}
 use Rattle.atl_reader.specs.declared.fault.ReadFault.{ReadFault}
 use Rattle.atl_reader.specs.declared.fault.ReadFault.TheVariants as read
-use Rattle.atl_reader.specs.Source.{SourceText, IsRefusedText, read_source}
+use Rattle.atl_reader.specs.Source.{IsCause, read_source}
 use Rattle.atl_reader.specs.Source.{Answers as Reads}
 use Rattle.lowering.specs.Correct.{HasLengths, IsCorrect}
 use Rattle.lowering.specs.Lowered.{loops_of}
 use Rattle.c_print.specs.Program.{canonical_text}
-use Rattle.atl_driver.specs.Compile.{Answers, Tells, compiled, compiled_as, fault_of}
-use Rattle.atl_driver.specs.Correct.{AreLoops, IsCompiled, IsRefusedSource}
+use Rattle.atl_driver.specs.Compile.{Answers, Tells, TellsAdmission, TellsFault, admission_fault_of, compiled, compiled_as, fault_of, judged_as, module_compiled, not_built, text_if}
+use Rattle.atl_driver.specs.Correct.{AreLoops, IsAdmitted, IsCompiled, IsRefusedSource, IsTextOf}
 use Rattle.atl_driver.specs.declared.compile.CompileRefusal.{CompileRefusal}
 use Rattle.atl_driver.specs.declared.compile.CompileRefusal.TheVariants.{Refused, Memory}
 use Rattle.atl_driver.specs.declared.fault.Fault.{Fault}
@@ -22,38 +29,89 @@ use Rattle.atl_driver.specs.declared.fault.Fault.{Fault}
 same_module : (m other : Module) → Reads (Ok m) (Ok other) → other ≡ m
 same_module m other h = cc
 
+-- the source is the text of the module that is read
+pub text_of_one : (z : List ℕ) (m : Module) → SourceText z m → ((other : Module) → SourceText z other → Reads (Ok m) (Ok other)) → IsTextOf z m
+text_of_one z m reads only = record { reads = reads; only = λ other is. same_module m other (only other is) }
+
 module _ {A : Type 0} where
   -- the text of a program that is lowered from the module
   pub are_loops : (m : Module) (p : Prog) (r : Result (Vec ℕ A) CompileRefusal) → p ≡ loops_of m → IsWellFormed p → HasLengths m p → IsCorrect m p
-      → MatchResult r (λ text. text.items ≡ canonical_text p) (λ refusal. refusal ≡ Memory)
-      → MatchResult r (λ text. AreLoops m text.items) (λ refusal. refusal ≡ Memory)
+      → MatchResult r (λ text. text.items ≡ canonical_text p) (λ refusal. refusal ≡ Memory) → MatchResult r (λ text. AreLoops m text.items) (λ refusal. refusal ≡ Memory)
   are_loops m p (Ok text) loops formed lengths correct prints =
       record { program = p; loops = loops; prints = prints; formed = formed; lengths = lengths; correct = correct }
   are_loops m p (Err e) loops formed lengths correct h = h
 
+  -- of a module of the form that is lowered
+  pub small_answers : (m : Module) (r : Result (Vec ℕ A) CompileRefusal) → is_small m ≡ true
+      → MatchResult r (λ text. AreLoops m text.items) (λ refusal. refusal ≡ Memory) → Answers (text_if (is_small m) m) r
+  small_answers m (Ok text) e h = ap (λ b. text_if b m) e ∙ ap (λ (t : List ℕ). Ok t) (sym (h.prints ∙ ap canonical_text h.loops))
+  small_answers m (Err (Refused fault)) e h = absurd (cc)
+  small_answers m (Err Memory) e h = tt
+
+  pub small_loops : (m : Module) (r : Result (Vec ℕ A) CompileRefusal) → MatchResult r (λ text. AreLoops m text.items) (λ refusal. refusal ≡ Memory) → IfOk r (λ text. AreLoops m text.items)
+  small_loops m (Ok text) h = h
+  small_loops m (Err e) h = tt
+
+  -- of a module that is admitted
+  pub admitted_answers : (m : Module) (r : Result (Vec ℕ A) CompileRefusal) → Accepted m → Answers (text_if (is_small m) m) r → Answers (module_compiled m) r
+  unfolding module_compiled
+  admitted_answers m r a h = subst (λ (o : Option AdmissionFault). Answers (judged_as o m) r) (sym a) h
+
+  pub admitted_loops : (m : Module) (r : Result (Vec ℕ A) CompileRefusal) → IsAdmitted m → IfOk r (λ text. AreLoops m text.items) → IfOk r (λ text. IsAdmitted m × AreLoops m text.items)
+  admitted_loops m (Ok text) a h = (a, h)
+  admitted_loops m (Err e) a h = tt
+
   -- of a source that is read
-  pub answers_read : (z : List ℕ) (m : Module) (r : Result (Vec ℕ A) CompileRefusal) → read_source z ≡ Ok m
-      → MatchResult r (λ text. AreLoops m text.items) (λ refusal. refusal ≡ Memory) → Answers (compiled z) r
+  pub answers_read : (z : List ℕ) (m : Module) (r : Result (Vec ℕ A) CompileRefusal) → read_source z ≡ Ok m → Answers (module_compiled m) r → Answers (compiled z) r
   unfolding compiled
-  answers_read z m (Ok text) e h = ap compiled_as e ∙ ap (λ (t : List ℕ). Ok t) (sym (h.prints ∙ ap canonical_text h.loops))
-  answers_read z m (Err (Refused fault)) e h = absurd (cc)
-  answers_read z m (Err Memory) e h = tt
+  answers_read z m r e h = subst (λ (o : Result Module ReadFault). Answers (compiled_as o) r) (sym e) h
 
-  pub compiled_read : (z : List ℕ) (m : Module) (r : Result (Vec ℕ A) CompileRefusal) → SourceText z m
-      → ((other : Module) → SourceText z other → Reads (Ok m) (Ok other))
-      → MatchResult r (λ text. AreLoops m text.items) (λ refusal. refusal ≡ Memory) → IfOk r (λ text. IsCompiled z text.items)
-  compiled_read z m (Ok text) reads only h = record { origin = m; reads = reads; only = λ other is. same_module m other (only other is); loops = h }
-  compiled_read z m (Err e) reads only h = tt
+  pub compiled_read : (z : List ℕ) (m : Module) (r : Result (Vec ℕ A) CompileRefusal) → IsTextOf z m
+      → IfOk r (λ text. IsAdmitted m × AreLoops m text.items) → IfOk r (λ text. IsCompiled z text.items)
+  compiled_read z m (Ok text) reads h = record { origin = m; reads = reads; admitted = h.0; loops = h.1 }
+  compiled_read z m (Err e) reads h = tt
 
-  pub no_fault_read : (z : List ℕ) (m : Module) (r : Result (Vec ℕ A) CompileRefusal)
-      → MatchResult r (λ text. AreLoops m text.items) (λ refusal. refusal ≡ Memory)
+  -- the cause of a fault of a module that is read
+  pub refused_read : (z : List ℕ) (m : Module) (r : Result (Vec ℕ A) CompileRefusal) → IsTextOf z m → Answers (module_compiled m) r
       → (fault : Fault) → IsErrOf r (Refused fault) → IsRefusedSource z fault
-  no_fault_read z m (Ok text) h fault is = absurd (cc)
-  no_fault_read z m (Err e) h fault is = absurd (cc)
+  unfolding module_compiled
+  refused_read z m (Ok text) reads h fault is = absurd (cc)
+  refused_read z m (Err Memory) reads h fault is = absurd (cc)
+  refused_read z m (Err (Refused told)) reads h fault is =
+      let same : told ≡ fault = cc in
+      by (admission_fault m) refl (h ∙ ap (λ (f : Fault). Err f) same)
+    where
+      by_form : admission_fault m ≡ None → (b : Bool) → is_small m ≡ b → text_if b m ≡ Err fault → IsRefusedSource z fault
+      by_form a true e h = absurd (cc)
+      by_form a false e h = let same : not_built ≡ fault = cc in inr (inr (record { origin = m; reads = reads; admitted = a; unlike = e; told = sym same }))
+
+      by : (o : Option AdmissionFault) → admission_fault m ≡ o → judged_as o m ≡ Err fault → IsRefusedSource z fault
+      by None e h = by_form e (is_small m) refl h
+      by (Some broken) e h =
+          let same : admission_fault_of broken ≡ fault = cc in
+          inr (inl (record { origin = m; reads = reads; broken = broken; first = e; told = sym same }))
+
+-- of a module of another form
+pub large_answers : (A : Type 0) (m : Module) (refusal : CompileRefusal) → is_small m ≡ false → TellsFault not_built refusal → Answers {A = A} (text_if (is_small m) m) (Err refusal)
+large_answers A m (Refused told) e h = ap (λ b. text_if b m) e ∙ ap (λ (f : Fault). Err f) (sym h)
+large_answers A m Memory e h = tt
+
+-- of a module that is not admitted
+pub unadmitted_answers : (A : Type 0) (m : Module) (fault : AdmissionFault) (refusal : CompileRefusal) → Judges (admission_fault m) fault → TellsAdmission fault refusal
+    → Answers {A = A} (module_compiled m) (Err refusal)
+unfolding module_compiled
+unadmitted_answers A m fault Memory judges tells = tt
+unadmitted_answers A m fault (Refused told) judges tells =
+    ap (λ o. judged_as o m) (due fault judges tells.1) ∙ ap (λ (f : Fault). Err f) (sym tells.0)
+  where
+    due : (fault : AdmissionFault) → Judges (admission_fault m) fault → fault ≢ admission.Memory → admission_fault m ≡ Some fault
+    due (admission.Shape f) h n = h
+    due (admission.ExtentNotShown g) h n = h
+    due (admission.BadExample c) h n = h
+    due admission.Memory h n = absurd (n refl)
 
 -- of a source that is not read
-pub answers_unread : (A : Type 0) (z : List ℕ) (fault : ReadFault) (refusal : CompileRefusal) → Reads (Err fault) (read_source z) → Tells fault refusal
-    → Answers {A = A} (compiled z) (Err refusal)
+pub answers_unread : (A : Type 0) (z : List ℕ) (fault : ReadFault) (refusal : CompileRefusal) → Reads (Err fault) (read_source z) → Tells fault refusal → Answers {A = A} (compiled z) (Err refusal)
 unfolding compiled
 answers_unread A z fault (Refused told) exact tells = ap compiled_as (exact tells.1) ∙ ap (λ (f : Fault). Err f) (sym tells.0)
 answers_unread A z fault Memory exact tells = tt
@@ -61,33 +119,14 @@ answers_unread A z fault Memory exact tells = tt
 not_ok : {P : Type 0} (fault : ReadFault) (m : Module) → Reads (Err fault) (Ok m) → fault ≢ read.Memory → P
 not_ok fault m h sure = let e = h sure in absurd (cc)
 
-refused_at : (z : List ℕ) (fault : ReadFault) (told : Fault) → IsRefusedText z fault → ((m : Module) → SourceText z m → ⊥) → told ≡ fault_of fault
-    → fault ≢ read.Memory → IsRefusedSource z told
-refused_at z (read.NotBuilt place) told leaves none is sure = record { place = place; told = is; leaves = leaves; none = none }
-refused_at z read.Memory told leaves none is sure = absurd (sure refl)
-refused_at z (read.NotUtf8 at) told leaves none is sure = absurd leaves
-refused_at z (read.BadToken at) told leaves none is sure = absurd leaves
-refused_at z (read.BadSyntax at) told leaves none is sure = absurd leaves
-refused_at z (read.TooDeep at) told leaves none is sure = absurd leaves
-refused_at z (read.UnknownName at) told leaves none is sure = absurd leaves
-refused_at z (read.NameTwice at) told leaves none is sure = absurd leaves
-refused_at z (read.ReservedName at) told leaves none is sure = absurd leaves
-refused_at z (read.NumberTooLarge at) told leaves none is sure = absurd leaves
-refused_at z (read.NotAffine at) told leaves none is sure = absurd leaves
-refused_at z (read.CoefficientTooLarge at) told leaves none is sure = absurd leaves
-refused_at z (read.IndexTooLong at) told leaves none is sure = absurd leaves
-refused_at z (read.TooManyNodes nodes) told leaves none is sure = absurd leaves
-
-told_is : (fault : ReadFault) (refusal : CompileRefusal) (told : Fault) → Tells fault refusal → refusal ≡ Refused told
-    → (told ≡ fault_of fault) × (fault ≢ read.Memory)
+told_is : (fault : ReadFault) (refusal : CompileRefusal) (told : Fault) → Tells fault refusal → refusal ≡ Refused told → (told ≡ fault_of fault) × (fault ≢ read.Memory)
 told_is fault (Refused f) told tells is = let same : f ≡ told = cc in (sym same ∙ tells.0, tells.1)
 told_is fault Memory told tells is = absurd (cc)
 
 -- a fault that is told of a source that is not read
-pub refused_unread : (A : Type 0) (z : List ℕ) (fault : ReadFault) (refusal : CompileRefusal) → IsRefusedText z fault
-    → ((m : Module) → SourceText z m → Reads (Err fault) (Ok m)) → Tells fault refusal → (told : Fault) → IsErrOf {T = Vec ℕ A} (Err refusal) (Refused told)
-    → IsRefusedSource z told
-refused_unread A z fault refusal leaves only tells told is =
+pub refused_unread : (A : Type 0) (z : List ℕ) (fault : ReadFault) (refusal : CompileRefusal) → IsCause z fault
+    → ((m : Module) → SourceText z m → Reads (Err fault) (Ok m)) → Tells fault refusal → (told : Fault) → IsErrOf {T = Vec ℕ A} (Err refusal) (Refused told) → IsRefusedSource z told
+refused_unread A z fault refusal is_cause only tells told is =
     let same : refusal ≡ Refused told = cc in
     let cause = told_is fault refusal told tells same in
-    refused_at z fault told leaves (λ m reads. not_ok {P = ⊥} fault m (only m reads) cause.1) cause.0 cause.1
+    inl (record { cause = fault; told = cause.0; is_cause = is_cause; fails = cause.1; none = λ m reads. not_ok {P = ⊥} fault m (only m reads) cause.1 })

@@ -1,11 +1,17 @@
 -- What the files of a command come to.
-use Rattle.std.specs.Prelude.{◌≡◌, ◌≢◌, ℕ, List, [], ◌∷◌, Ok, Err, ⊤}
+use Rattle.std.specs.Prelude.{◌≡◌, ◌≢◌, ℕ, Bool, true, false, List, [], ◌∷◌, Ok, Err, Option, Some, None, ⊤}
 use Rattle.std.specs.declared.result.Result.{Result}
 use Rattle.std.specs.declared.vec.Vec.{Vec}
 use Rattle.term_tree.specs.declared.term.Module.{Module}
+use Rattle.shape_rules.specs.declared.fault.ShapeFault.{ShapeFault}
+use Rattle.shape_rules.specs.declared.fault.ShapeFault.TheVariants as shape
 use Rattle.atl_reader.specs.declared.fault.ReadFault.{ReadFault}
 use Rattle.atl_reader.specs.declared.fault.ReadFault.TheVariants as read
 use Rattle.atl_reader.specs.Source.{read_source}
+use Rattle.admission.specs.Admission.{admission_fault}
+use Rattle.admission.specs.declared.fault.AdmissionFault.{AdmissionFault}
+use Rattle.admission.specs.declared.fault.AdmissionFault.TheVariants as admission
+use Rattle.small_form.specs.Tested.{is_small}
 use Rattle.lowering.specs.Lowered.{loops_of}
 use Rattle.c_print.specs.Program.{canonical_text}
 use Rattle.atl_driver.specs.declared.command.Verb.{Verb}
@@ -13,13 +19,22 @@ use Rattle.atl_driver.specs.declared.command.Verb.TheVariants.{Compile}
 use Rattle.atl_driver.specs.declared.compile.CompileRefusal.{CompileRefusal}
 use Rattle.atl_driver.specs.declared.compile.CompileRefusal.TheVariants.{Refused, Memory}
 use Rattle.atl_driver.specs.declared.fault.Fault.{Fault}
-use Rattle.atl_driver.specs.declared.fault.FaultField.TheVariants.{At, Nodes}
+use Rattle.atl_driver.specs.declared.fault.FaultField.{FaultField}
+use Rattle.atl_driver.specs.declared.fault.FaultField.TheVariants as field
+
+-- a fault of one field
+abbrev pub one_field : ℕ → FaultField → Fault
+one_field number told = record { number = number; fields = told ∷ [] }
 
 -- a rule is broken at this place
 abbrev pub broken_at : ℕ → ℕ → Fault
-broken_at number at = record { number = number; fields = At at ∷ [] }
+broken_at number at = one_field number (field.At at)
 
--- the fault of a text that is not read; want of memory is no fault of a text, and has no number
+-- want of memory is no fault, and has no number
+abbrev pub no_fault : Fault
+no_fault = record { number = 0; fields = [] }
+
+-- the fault of a text that is not read
 abbrev pub fault_of : ReadFault → Fault
 fault_of (read.NotUtf8 at) = broken_at 1 at
 fault_of (read.BadToken at) = broken_at 2 at
@@ -32,18 +47,62 @@ fault_of (read.NumberTooLarge at) = broken_at 8 at
 fault_of (read.NotAffine at) = broken_at 9 at
 fault_of (read.CoefficientTooLarge at) = broken_at 16 at
 fault_of (read.IndexTooLong at) = broken_at 17 at
-fault_of (read.TooManyNodes nodes) = record { number = 15; fields = Nodes nodes ∷ [] }
-fault_of (read.NotBuilt at) = broken_at 60 at
-fault_of read.Memory = record { number = 0; fields = [] }
+fault_of (read.TooManyNodes nodes) = one_field 15 (field.Nodes nodes)
+fault_of read.Memory = no_fault
 
--- the refusal tells the fault, or that memory did not suffice
+-- the fault of shapes
+abbrev pub shape_fault_of : ShapeFault → Fault
+shape_fault_of (shape.InputRank input) = one_field 12 (field.Input input)
+shape_fault_of (shape.RankMismatch path) = one_field 10 (field.Path path)
+shape_fault_of (shape.ShapesDiffer path) = one_field 11 (field.Path path)
+shape_fault_of (shape.RankTooLarge path) = one_field 12 (field.Path path)
+shape_fault_of (shape.CoefficientTooLarge path) = one_field 16 (field.Path path)
+shape_fault_of (shape.IndexTooLong path) = one_field 17 (field.Path path)
+shape_fault_of shape.Memory = no_fault
+
+-- the fault of a module that is not admitted
+abbrev pub admission_fault_of : AdmissionFault → Fault
+admission_fault_of (admission.Shape fault) = shape_fault_of fault
+admission_fault_of (admission.ExtentNotShown goal) = one_field 13 (field.Goal goal)
+admission_fault_of (admission.BadExample constraint) = one_field 14 (field.Constraint constraint)
+admission_fault_of admission.Memory = no_fault
+
+-- the module is not of the form that is lowered so far
+abbrev pub not_built : Fault
+not_built = broken_at 60 0
+
+-- the text of an admitted module
+abbrev pub text_if : Bool → Module → Result (List ℕ) Fault
+text_if true m = Ok (canonical_text (loops_of m))
+text_if false m = Err not_built
+
+-- the text of a module with this verdict
+abbrev pub judged_as : Option AdmissionFault → Module → Result (List ℕ) Fault
+judged_as None m = text_if (is_small m) m
+judged_as (Some fault) m = Err (admission_fault_of fault)
+
+-- the text of a module that was read, or its first fault: of the shapes, the extents, the example, and last of the form
+unfoldable pub module_compiled : Module → Result (List ℕ) Fault
+module_compiled m = judged_as (admission_fault m) m
+
+abbrev pub compiled_as : Result Module ReadFault → Result (List ℕ) Fault
+compiled_as (Ok m) = module_compiled m
+compiled_as (Err fault) = Err (fault_of fault)
+
+-- the refusal tells this fault, or that memory did not suffice
+abbrev pub TellsFault : Fault → CompileRefusal → Type 0
+TellsFault fault (Refused told) = told ≡ fault
+TellsFault fault Memory = ⊤
+
+-- the refusal tells what was found in the text, or that memory did not suffice
 abbrev pub Tells : ReadFault → CompileRefusal → Type 0
 Tells fault (Refused told) = (told ≡ fault_of fault) × (fault ≢ read.Memory)
 Tells fault Memory = ⊤
 
-abbrev pub compiled_as : Result Module ReadFault → Result (List ℕ) Fault
-compiled_as (Ok m) = Ok (canonical_text (loops_of m))
-compiled_as (Err fault) = Err (fault_of fault)
+-- the refusal tells what was found in the module, or that memory did not suffice
+abbrev pub TellsAdmission : AdmissionFault → CompileRefusal → Type 0
+TellsAdmission fault (Refused told) = (told ≡ admission_fault_of fault) × (fault ≢ admission.Memory)
+TellsAdmission fault Memory = ⊤
 
 -- the C text of a source, or its first fault
 unfoldable pub compiled : List ℕ → Result (List ℕ) Fault

@@ -1,16 +1,23 @@
 -- The compiler is correct.
-use Rattle.std.specs.Prelude.{◌≡◌, ℕ, List}
+use Rattle.std.specs.Prelude.{◌≡◌, ◌≢◌, ◌⊎◌, ℕ, List, Some, false}
 use Rattle.term_tree.specs.declared.term.Module.{Module}
 use Rattle.loop_lang.specs.declared.stmt.Prog.{Prog}
 use Rattle.loop_lang.specs.Form.{IsWellFormed}
-use Rattle.atl_reader.specs.Source.{SourceText, LeavesForm}
+use Rattle.term_tree.specs.Modules.{Allowed, IsSound}
+use Rattle.admission.specs.Admission.{Accepted, admission_fault}
+use Rattle.admission.specs.declared.fault.AdmissionFault.{AdmissionFault}
+use Rattle.small_form.specs.Tested.{is_small}
+use Rattle.source_grammar.specs.Source.{SourceText}
+use Rattle.atl_reader.specs.Source.{IsCause}
+use Rattle.atl_reader.specs.declared.fault.ReadFault.{ReadFault}
+use Rattle.atl_reader.specs.declared.fault.ReadFault.TheVariants.{Memory}
 use Rattle.lowering.specs.Correct.{HasLengths, IsCorrect}
 use Rattle.lowering.specs.Lowered.{loops_of}
 use Rattle.c_print.specs.Program.{canonical_text}
 use Rattle.atl_driver.specs.declared.command.Verb.{Verb}
 use Rattle.atl_driver.specs.declared.command.Verb.TheVariants.{Compile}
 use Rattle.atl_driver.specs.declared.fault.Fault.{Fault}
-use Rattle.atl_driver.specs.Compile.{broken_at, first_content}
+use Rattle.atl_driver.specs.Compile.{admission_fault_of, fault_of, first_content, not_built}
 
 -- The text is the canonical text of the loops of a module: of a program that is well formed, whose printed lengths are the numbers of words of the
 -- module's tensors, and whose every run at all allowed sizes, on inputs of these lengths and whatever the outputs hold, ends, touches no index outside a
@@ -23,19 +30,52 @@ pub record AreLoops (origin : Module) (text : List ℕ) : Type 0 where
   pub lengths : HasLengths origin program
   pub correct : IsCorrect origin program
 
--- the source is the text of exactly one module, and the text that of its loops
-pub record IsCompiled (source text : List ℕ) : Type 0 where
-  pub origin : Module
+-- the source is the text of exactly one module
+pub record IsTextOf (source : List ℕ) (origin : Module) : Type 0 where
   pub reads : SourceText source origin
   pub only : (other : Module) → SourceText source other → other ≡ origin
+
+-- the module breaks no rule of shapes, extents and example; so it is sound, and its example is a choice of allowed sizes
+pub record IsAdmitted (origin : Module) : Type 0 where
+  pub accepted : Accepted origin
+  pub sound : IsSound origin
+  pub example : Allowed origin origin.example
+
+-- The source is the text of exactly one module, which is sound and whose example is a choice of allowed sizes, and the text is
+-- that of its loops.
+pub record IsCompiled (source text : List ℕ) : Type 0 where
+  pub origin : Module
+  pub reads : IsTextOf source origin
+  pub admitted : IsAdmitted origin
   pub loops : AreLoops origin text
 
--- the source leaves what is read so far, at the place that the fault tells, and is the text of no module
-pub record IsRefusedSource (source : List ℕ) (fault : Fault) : Type 0 where
-  pub place : ℕ
-  pub told : fault ≡ broken_at 60 place
-  pub leaves : LeavesForm source place
+-- the source is the text of no module, with the first cause
+pub record IsUnread (source : List ℕ) (fault : Fault) : Type 0 where
+  pub cause : ReadFault
+  pub told : fault ≡ fault_of cause
+  pub is_cause : IsCause source cause
+  pub fails : cause ≢ Memory
   pub none : (m : Module) → SourceText source m → ⊥
+
+-- the source is the text of exactly one module, and this is the first rule that the module breaks
+pub record IsUnadmitted (source : List ℕ) (fault : Fault) : Type 0 where
+  pub origin : Module
+  pub reads : IsTextOf source origin
+  pub broken : AdmissionFault
+  pub first : admission_fault origin ≡ Some broken
+  pub told : fault ≡ admission_fault_of broken
+
+-- the source is the text of exactly one module, which is admitted and is not of the form that is lowered so far
+pub record IsUnbuilt (source : List ℕ) (fault : Fault) : Type 0 where
+  pub origin : Module
+  pub reads : IsTextOf source origin
+  pub admitted : Accepted origin
+  pub unlike : is_small origin ≡ false
+  pub told : fault ≡ not_built
+
+-- why a source has no text: reading first, then the rules of the module, then its form
+abbrev pub IsRefusedSource : List ℕ → Fault → Type 0
+IsRefusedSource source fault = IsUnread source fault ⊎ (IsUnadmitted source fault ⊎ IsUnbuilt source fault)
 
 -- the text is right for the contents of a command's files
 abbrev pub IsRight : Verb → List (List ℕ) → List ℕ → Type 0

@@ -1,5 +1,5 @@
 pub mod LimitLaws
+pub mod Versions
+pub mod FewLaws
 pub mod Bytes
-pub mod Laws
-pub mod WholeLaws
-pub mod SmallLaws
+pub mod Causes

@@ -1,5 +1,1 @@
-pub mod Limits
-pub mod Names
-pub mod Lines
-pub mod Terms
 pub mod Source

@@ -1,101 +1,137 @@
--- Source texts: how they are read, and their grammar.
-use Rattle.std.specs.Prelude.{◌≡◌, ◌⊎◌, ℕ, ◌≢◌, if◌then◌else◌, false, List, [], ◌∷◌, map, take, Result, Ok, Err}
-use Rattle.std.specs.Str.{IsUtf8, is_utf8}
+-- What reading a source text answers, and the cause of each refusal.
+use Rattle.std.specs.Prelude.{◌≡◌, ◌≢◌, ◌⊎◌, ◌<◌, ◌+◌, ◌-◌, ◌^◌, ◌&&◌, ℕ, zero, suc, false, if◌then◌else◌, min, nat_lt, List, [], ◌∷◌, length}
+use Rattle.std.specs.Prelude.{Option, Some}
+use Rattle.std.specs.Prelude.{None, Result, Ok, Err, codes}
+use Rattle.std.specs.Str.{IsUtf8, bytes_eq, is_utf8}
 use Rattle.std.specs.Str.Lossy.{utf8_valid_len}
 use Rattle.text_tokens.specs.declared.kind.Kind.TheVariants as k
 use Rattle.text_tokens.specs.declared.kind.Language.TheVariants.{SourceOne}
-use Rattle.text_tokens.specs.Kinds.{Text}
-use Rattle.text_tokens.specs.Words.{Word, words_of}
-use Rattle.affine_index.specs.Form.{size_form}
-use Rattle.term_tree.specs.declared.term.SizeDecl.{SizeDecl}
-use Rattle.term_tree.specs.declared.term.InputDecl.{InputDecl}
+use Rattle.text_tokens.specs.Kinds.{Text, same_kind}
+use Rattle.text_tokens.specs.Words.{Input, Word, input, next, peek, words_of}
+use Rattle.term_tree.specs.Counts.{node_depth}
 use Rattle.term_tree.specs.declared.term.OutputDecl.{OutputDecl}
 use Rattle.term_tree.specs.declared.term.Module.{Module}
 use Rattle.reader_laws.specs.declared.fault.Fault.{Fault}
+use Rattle.reader_laws.specs.declared.fault.Fault.TheVariants as f
 use Rattle.reader_laws.specs.declared.fault.ReadError.{ReadError}
 use Rattle.reader_laws.specs.declared.fault.ReadError.TheVariants as early
-use Rattle.reader_laws.specs.Steps.{Parser, ◌>>=◌, pure, a_word, no_value, read_whole}
-use Rattle.reader_laws.specs.Grammar.{IsWordOf, IsNothing, Both, IsRefusedAt}
+use Rattle.reader_laws.specs.Steps.{kind, read_whole, text}
+use Rattle.reader_laws.specs.Grammar.{IsRefusedAt}
+use Rattle.source_grammar.specs.ReadSource.{source}
+use Rattle.source_grammar.specs.Source.{IsSource, language, nodes}
 use Rattle.atl_reader.specs.declared.fault.ReadFault.{ReadFault}
-use Rattle.atl_reader.specs.declared.fault.ReadFault.TheVariants.{NotBuilt, Memory}
-use Rattle.atl_reader.specs.Names.{version_one}
-use Rattle.atl_reader.specs.declared.lines.InputLine.{InputLine}
-use Rattle.atl_reader.specs.Lines.{sizes, AreSizes, example, IsExample, inputs, AreInputs}
-use Rattle.atl_reader.specs.Terms.{output_line, IsOutputLine}
+use Rattle.atl_reader.specs.declared.fault.ReadFault.TheVariants.{NotUtf8, BadToken, BadSyntax, TooDeep, UnknownName, NameTwice, ReservedName}
+use Rattle.atl_reader.specs.declared.fault.ReadFault.TheVariants.{NumberTooLarge, NotAffine, CoefficientTooLarge, IndexTooLong, TooManyNodes, Memory}
 
--- an input with its extents as forms
-abbrev pub input_decl : InputLine → InputDecl
-input_decl d = record { name = d.name; extents = map size_form d.sizes }
+-- ---- the version
 
--- what was declared
-abbrev pub module_of : List SizeDecl → List ℕ → List InputLine → OutputDecl → Module
-module_of sizes example inputs output =
-    record { version = 1; sizes = sizes; assumes = []; example = example; inputs = map input_decl inputs; outputs = output ∷ [] }
+-- a text of version 2 begins with `atl 2`
+unfoldable pub version_at : Input → ℕ
+version_at i = if same_kind (kind i) k.Atl && same_kind (kind (next i)) k.Number && bytes_eq (text (next i)) (codes "2") then 2 else 1
 
--- `atl 1 ;`
-unfoldable pub header : Parser (Unit {0})
-header = a_word k.Atl no_value >>= λ _. (a_word k.Number version_one >>= λ _. a_word k.Semi no_value)
+abbrev pub version_of : Text → ℕ
+version_of z = version_at (input SourceOne z)
 
-abbrev pub IsHeader : List Word → Unit {0} → Type 0
-IsHeader = Both (IsWordOf k.Atl no_value) (λ _. Both (IsWordOf k.Number version_one) (λ _. IsWordOf k.Semi no_value))
+-- ---- faults
 
--- the declarations
-unfoldable pub declarations : Parser Module
-declarations =
-    sizes >>= λ ds. (example ds >>= λ ns. (inputs ds >>= λ is. (a_word k.Output no_value >>= λ _. (output_line ds is >>= λ output. pure (module_of ds ns is output)))))
+abbrev pub fault_at : Fault → ℕ → ReadFault
+fault_at f.BadToken at = BadToken at
+fault_at f.TooDeep at = TooDeep at
+fault_at f.BadSyntax at = BadSyntax at
+fault_at f.NumberTooLarge at = NumberTooLarge at
+fault_at f.ReservedName at = ReservedName at
+fault_at f.NameTwice at = NameTwice at
+fault_at f.UnknownName at = UnknownName at
+fault_at f.NotAffine at = NotAffine at
+fault_at f.CoefficientTooLarge at = CoefficientTooLarge at
+fault_at f.IndexTooLong at = IndexTooLong at
+fault_at f.NotBuilt at = BadSyntax at
 
-abbrev pub AreDeclarations : List Word → Module → Type 0
-AreDeclarations =
-    Both AreSizes (λ ds. Both (IsExample ds) (λ ns. Both (AreInputs ds) (λ is. Both (IsWordOf k.Output no_value) (λ _. Both (IsOutputLine ds is) (λ output. IsNothing (module_of ds ns is output))))))
+abbrev pub fault_of : ReadError → ReadFault
+fault_of early.Memory = Memory
+fault_of (early.Refused fault at) = fault_at fault at
 
-unfoldable pub source : Parser Module
-source = header >>= λ _. declarations
+-- ---- the limits of whole terms
 
--- the words of a source, and its module
-abbrev pub IsSource : List Word → Module → Type 0
-IsSource = Both IsHeader (λ _. AreDeclarations)
+-- the number of the first output whose term is too deep, where the first has this number
+abbrev pub deep_from : ℕ → List OutputDecl → Option ℕ
+deep_from at [] = None
+deep_from at (d ∷ ds) = if nat_lt 200 (node_depth d.term) then Some at else deep_from (at + 1) ds
 
--- the bytes are the text of a source, and this is its module
-abbrev pub SourceText : Text → Module → Type 0
-SourceText z m = IsUtf8 z × IsSource (words_of SourceOne z) m
+-- what stands two words on
+abbrev pub behind : Input → ℕ
+behind i = (peek (next (next i))).place
 
--- ---- what reading answers
+-- where the term of the output with this number begins, among these words of a text of this length: behind `output NAME =`
+abbrev pub term_place_in : ℕ → List Word → ℕ → ℕ
+term_place_in end [] n = end
+term_place_in end (w ∷ ws) zero = if same_kind w.kind k.Output then behind (record { words = ws; end = end }) else term_place_in end ws zero
+term_place_in end (w ∷ ws) (suc n) = if same_kind w.kind k.Output then term_place_in end ws n else term_place_in end ws (suc n)
 
--- until the whole language is read, each fault is that its word leaves what is read so far
-abbrev pub answered : Result Module ReadError → Result Module ReadFault
-answered (Ok m) = Ok m
-answered (Err early.Memory) = Err Memory
-answered (Err (early.Refused fault place)) = Err (NotBuilt place)
+abbrev pub term_place : ℕ → Input → ℕ
+term_place n i = term_place_in i.end i.words n
 
--- the text goes on after this place with bytes that are no text
-abbrev pub cut_off : ℕ → Result Module ReadFault → Result Module ReadFault
-cut_off place (Ok m) = Err (NotBuilt place)
-cut_off place (Err fault) = Err fault
+abbrev pub within : Option ℕ → ℕ → Text → Module → Result Module ReadFault
+within (Some n) version z m = Err (TooDeep (term_place n (input (language version) z)))
+within None version z m = if nat_lt 20000 (nodes m.outputs) then Err (TooManyNodes (min (nodes m.outputs) (2 ^ 64 - 1))) else Ok m
 
-unfoldable pub read_text : Text → Result Module ReadFault
-read_text z = answered (read_whole SourceOne source z)
+-- ---- what is answered
 
--- the longest front of these bytes that is UTF-8
-abbrev pub valid_front : Text → Text
-valid_front z = take (utf8_valid_len z) z
+-- a module that was read, where its terms are within the limits
+abbrev pub checked : ℕ → Text → Result Module ReadError → Result Module ReadFault
+checked version z (Ok m) = within (deep_from 0 m.outputs) version z m
+checked version z (Err e) = Err (fault_of e)
 
--- the module of the bytes, or the first place at which they leave what is read so far
+unfoldable pub read_text : ℕ → Text → Result Module ReadFault
+read_text version z = checked version z (read_whole (language version) (source version) z)
+
+-- the module of the bytes, or the first fault at its place
 unfoldable pub read_source : Text → Result Module ReadFault
-read_source z = if is_utf8 z then read_text z else cut_off (utf8_valid_len z) (read_text (valid_front z))
+read_source z = if is_utf8 z then read_text (version_of z) z else Err (NotUtf8 (utf8_valid_len z))
 
 -- an answer, which is this one unless memory fails
 abbrev pub Answers : Result Module ReadFault → Result Module ReadFault → Type 0
 Answers (Ok m) outcome = outcome ≡ Ok m
 Answers (Err fault) outcome = fault ≢ Memory → outcome ≡ Err fault
 
--- The text leaves the form at this place: the words as far as the one that stands here are the beginning of no source; or its longest front that is UTF-8 is one, and ends here.
-abbrev pub LeavesForm : Text → ℕ → Type 0
-LeavesForm z place =
-    ((fault : Fault) × IsRefusedAt SourceOne IsSource (valid_front z) fault place)
-    ⊎ ((is_utf8 z ≡ false) × (place ≡ utf8_valid_len z) × ((m : Module) × SourceText (valid_front z) m))
+-- ---- causes
 
--- the cause of a refusal; no other refusal comes, and want of memory has no cause
-abbrev pub IsRefusedText : Text → ReadFault → Type 0
-IsRefusedText z (NotBuilt place) = LeavesForm z place
-IsRefusedText z Memory = Unit {0}
-IsRefusedText z fault = ⊥
+-- the words are those of this module, but the term of an output is too deep, and of the first such output it begins here
+pub record IsDeep (z : Text) (at : ℕ) : Type 0 where
+  pub found : Module
+  pub words : IsSource (version_of z) (words_of (language (version_of z)) z) found
+  pub output : ℕ
+  pub deep : deep_from 0 found.outputs ≡ Some output
+  pub place : at ≡ term_place output (input (language (version_of z)) z)
+
+-- the words are those of this module, and no term is too deep, but together they have so many nodes, which are too many
+pub record IsLarge (z : Text) (count : ℕ) : Type 0 where
+  pub found : Module
+  pub words : IsSource (version_of z) (words_of (language (version_of z)) z) found
+  pub shallow : deep_from 0 found.outputs ≡ None
+  pub large : 20000 < nodes found.outputs
+  pub count_is : count ≡ min (nodes found.outputs) (2 ^ 64 - 1)
+
+-- the words as far as the one that decides are the beginning of no source of the version that the text names
+abbrev pub IsFaulty : Text → Fault → ℕ → Type 0
+IsFaulty z fault at = IsRefusedAt (language (version_of z)) (IsSource (version_of z)) z fault at
+
+-- the cause of a refusal; want of memory has none
+abbrev pub IsCause : Text → ReadFault → Type 0
+IsCause z (NotUtf8 at) = (is_utf8 z ≡ false) × (at ≡ utf8_valid_len z)
+IsCause z (BadToken at) = IsUtf8 z × IsFaulty z f.BadToken at
+IsCause z (BadSyntax at) = IsUtf8 z × (IsFaulty z f.BadSyntax at ⊎ IsFaulty z f.NotBuilt at)
+IsCause z (TooDeep at) = IsUtf8 z × (IsFaulty z f.TooDeep at ⊎ IsDeep z at)
+IsCause z (UnknownName at) = IsUtf8 z × IsFaulty z f.UnknownName at
+IsCause z (NameTwice at) = IsUtf8 z × IsFaulty z f.NameTwice at
+IsCause z (ReservedName at) = IsUtf8 z × IsFaulty z f.ReservedName at
+IsCause z (NumberTooLarge at) = IsUtf8 z × IsFaulty z f.NumberTooLarge at
+IsCause z (NotAffine at) = IsUtf8 z × IsFaulty z f.NotAffine at
+IsCause z (CoefficientTooLarge at) = IsUtf8 z × IsFaulty z f.CoefficientTooLarge at
+IsCause z (IndexTooLong at) = IsUtf8 z × IsFaulty z f.IndexTooLong at
+IsCause z (TooManyNodes count) = IsUtf8 z × IsLarge z count
+IsCause z Memory = Unit {0}
+
+-- how much is declared
+abbrev pub declarations : Module → ℕ
+declarations m = length m.sizes + length m.inputs + length m.outputs

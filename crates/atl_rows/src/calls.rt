@@ -74,3 +74,11 @@ pub fn told(
     assert_eq!(rt; err.written(), texts.1.as_bytes());
     Ok(status)
 }
+
+/// The status of a call over a source, with sinks of ample room.
+pub fn answered(alloc: Global, content: &str) -> Result<Status, AllocError> {
+    let mut files = SureFiles::new(held(alloc, content.as_bytes())?);
+    let mut out = MemSink::new(alloc, 1_048_576, Vec::new(alloc))?;
+    let mut err = MemSink::new(alloc, 64, Vec::new(alloc))?;
+    call(alloc, &COMPILE, &mut files, &mut out, &mut err)
+}

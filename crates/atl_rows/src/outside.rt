@@ -22,31 +22,6 @@ fn a_file_that_is_not_read_has_its_line(rt: HostRuntime) -> Result<(), Fail> {
 }
 
 #[test]
-fn a_text_that_leaves_the_form_is_refused_at_its_place(rt: HostRuntime) -> Result<(), Fail> {
-    let alloc = rt.alloc();
-    let table: [(&[u8], &str); 7] = [
-        (b"", "F60 NotBuilt at 0\n"),
-        (b"atl 2;", "F60 NotBuilt at 4\n"),
-        (b"atl 1; output B = 1 - 2;", "F60 NotBuilt at 20\n"),
-        (
-            b"atl 1; size N in 0..8; example N = 9;",
-            "F60 NotBuilt at 35\n",
-        ),
-        (
-            b"atl 1; size N in 0..8; example N = 3; input N",
-            "F60 NotBuilt at 44\n",
-        ),
-        (b"atl 1; # to the end", "F60 NotBuilt at 19\n"),
-        (b"atl 1; \xff", "F60 NotBuilt at 7\n"),
-    ];
-    for (source, line) in table {
-        let status = told(&rt, alloc, &COMPILE, source, &[], ("", line))?;
-        assert!(rt; matches!(status, Status::Refused(_)));
-    }
-    Ok(())
-}
-
-#[test]
 fn other_words_are_usage(rt: HostRuntime) -> Result<(), Fail> {
     let alloc = rt.alloc();
     let texts = ("", "usage: atl compile SRC\n");
@@ -73,7 +48,7 @@ fn a_failing_put_is_a_write_fault(rt: HostRuntime) -> Result<(), Fail> {
     let number = "atl 1; output B = 5;";
     let table: [(&str, u64, &[u64], (&str, &str)); 4] = [
         (number, 8, &[], ("#include", "")),
-        ("", 4, &[], ("", "F60 ")),
+        ("", 4, &[], ("", "F03 ")),
         (number, 1024, &[1], ("", "")),
         ("", 1024, &[1], ("", "")),
     ];

@@ -1,8 +1,5 @@
-use Rattle.std.proofs.Common.{◌≡◌, ◌≤◌, true, length}
-use Rattle.term_tree.specs.Modules.{module_scoped, IsWithin}
-use Rattle.small_form.specs.SmallForm.{IsSmall}
-use Rattle.atl_reader.proofs.WholeLaws.{found, only, refused, of_read}
-use Rattle.atl_reader.proofs.SmallLaws as laws
+use Rattle.atl_reader.proofs.Bytes.{example_found, few_found, found, only, scoped_found}
+use Rattle.atl_reader.proofs.Causes.{refused}
 use Rattle.atl_reader.proofs.source.read_module.Goals as goal
 
 pub returns-clause-found : goal.returns-clause-found
@@ -17,17 +14,11 @@ returns-clause-refused c = refused c.args.text.now c.read_bytes.result c.read_by
 pub returns-clause-exact : goal.returns-clause-exact
 returns-clause-exact c = c.read_bytes.ensures
 
-pub returns-clause-small : goal.returns-clause-small
-returns-clause-small c = of_read IsSmall c.args.text.now c.read_bytes.result c.read_bytes.ensures laws.small
-
 pub returns-clause-scoped : goal.returns-clause-scoped
-returns-clause-scoped c = of_read (λ m. module_scoped m ≡ true) c.args.text.now c.read_bytes.result c.read_bytes.ensures laws.scoped
+returns-clause-scoped c = scoped_found c.args.text.now c.read_bytes.result c.read_bytes.ensures
+
+pub returns-clause-few : goal.returns-clause-few
+returns-clause-few c = few_found c.args.text.now c.read_bytes.result c.read_bytes.ensures
 
 pub returns-clause-example : goal.returns-clause-example
-returns-clause-example c = of_read (λ m. IsWithin m.sizes m.example) c.args.text.now c.read_bytes.result c.read_bytes.ensures laws.within
-
-pub returns-clause-sizes : goal.returns-clause-sizes
-returns-clause-sizes c = of_read (λ m. length m.sizes ≤ 2147483647) c.args.text.now c.read_bytes.result c.read_bytes.ensures laws.few_sizes
-
-pub returns-clause-inputs : goal.returns-clause-inputs
-returns-clause-inputs c = of_read (λ m. length m.inputs ≤ 2147483647) c.args.text.now c.read_bytes.result c.read_bytes.ensures laws.few_inputs
+returns-clause-example c = example_found c.args.text.now c.read_bytes.result c.read_bytes.ensures

@@ -1,0 +1,99 @@
+// The faults of texts and modules, each a number and a field.
+ghost use Rattle.std.specs.Prelude.{◌≡◌, ◌≢◌, [], ◌∷◌, IfOk, MatchResult};
+ghost use Rattle.atl_driver.specs.Compile.{Tells, TellsAdmission, TellsFault, admission_fault_of, fault_of as fault_for, not_built, one_field, shape_fault_of};
+ghost use Rattle.atl_driver.specs.declared.compile.CompileRefusal.TheVariants.{Memory};
+
+use crate::compile::CompileRefusal;
+use crate::{Fault, FaultField, Fields};
+use admission::AdmissionFault;
+use atl_reader::ReadFault;
+use shape_rules::ShapeFault;
+use std::alloc::{AllocError, Global};
+
+fn with_field(alloc: Global, number: u8, field: FaultField) -> Result<Fault, AllocError>
+    ensures { IfOk result (λ fault. fault ≡ one_field number field) }
+{
+    let mut fields = Vec::new(alloc);
+    fields.push(field)?;
+    let fields = Fields::new(fields);
+    Ok(Fault { number, fields })
+}
+
+/// The fault of a text that is not read.
+fn read_fault(alloc: Global, fault: ReadFault) -> Result<Fault, CompileRefusal>
+    ensures { MatchResult result (λ told. (told ≡ fault_for fault) × (fault ≢ ReadFault.Memory)) (λ refusal. refusal ≡ Memory) }
+{
+    let (number, field) = match fault {
+        ReadFault::NotUtf8 { at } => (1, FaultField::At(at)),
+        ReadFault::BadToken { at } => (2, FaultField::At(at)),
+        ReadFault::BadSyntax { at } => (3, FaultField::At(at)),
+        ReadFault::TooDeep { at } => (4, FaultField::At(at)),
+        ReadFault::UnknownName { at } => (5, FaultField::At(at)),
+        ReadFault::NameTwice { at } => (6, FaultField::At(at)),
+        ReadFault::ReservedName { at } => (7, FaultField::At(at)),
+        ReadFault::NumberTooLarge { at } => (8, FaultField::At(at)),
+        ReadFault::NotAffine { at } => (9, FaultField::At(at)),
+        ReadFault::CoefficientTooLarge { at } => (16, FaultField::At(at)),
+        ReadFault::IndexTooLong { at } => (17, FaultField::At(at)),
+        ReadFault::TooManyNodes { nodes } => (15, FaultField::Nodes(nodes)),
+        ReadFault::Memory => return Err(CompileRefusal::Memory),
+    };
+    Ok(with_field(alloc, number, field)?)
+}
+
+/// The refusal of a text that is not read.
+pub fn unread(alloc: Global, fault: ReadFault) -> CompileRefusal
+    ensures { Tells fault result }
+{
+    match read_fault(alloc, fault) {
+        Ok(fault) => CompileRefusal::Refused(fault),
+        Err(_) => CompileRefusal::Memory,
+    }
+}
+
+/// The refusal with one field.
+fn refused(alloc: Global, number: u8, field: FaultField) -> CompileRefusal
+    ensures { TellsFault (one_field number field) result }
+{
+    match with_field(alloc, number, field) {
+        Ok(fault) => CompileRefusal::Refused(fault),
+        Err(_) => CompileRefusal::Memory,
+    }
+}
+
+/// The refusal of a module whose shapes break a rule.
+fn misshapen(alloc: Global, fault: ShapeFault) -> CompileRefusal
+    ensures { TellsFault (shape_fault_of fault) result }
+{
+    let (number, field) = match fault {
+        ShapeFault::InputRank(input) => (12, FaultField::Input(input)),
+        ShapeFault::RankMismatch(path) => (10, FaultField::Path(path)),
+        ShapeFault::ShapesDiffer(path) => (11, FaultField::Path(path)),
+        ShapeFault::RankTooLarge(path) => (12, FaultField::Path(path)),
+        ShapeFault::CoefficientTooLarge(path) => (16, FaultField::Path(path)),
+        ShapeFault::IndexTooLong(path) => (17, FaultField::Path(path)),
+        ShapeFault::Memory => return CompileRefusal::Memory,
+    };
+    refused(alloc, number, field)
+}
+
+/// The refusal of a module that is not admitted.
+pub fn unadmitted(alloc: Global, fault: AdmissionFault) -> CompileRefusal
+    ensures { TellsAdmission fault result }
+{
+    match fault {
+        AdmissionFault::Shape(fault) => misshapen(alloc, fault),
+        AdmissionFault::ExtentNotShown(goal) => refused(alloc, 13, FaultField::Goal(goal)),
+        AdmissionFault::BadExample(constraint) => {
+            refused(alloc, 14, FaultField::Constraint(constraint))
+        }
+        AdmissionFault::Memory => CompileRefusal::Memory,
+    }
+}
+
+/// The refusal of a module that is not of the form that is lowered so far.
+pub fn unbuilt(alloc: Global) -> CompileRefusal
+    ensures { TellsFault not_built result }
+{
+    refused(alloc, 60, FaultField::At(0))
+}

@@ -1,5 +1,0 @@
-pub mod LimitLaws
-pub mod Versions
-pub mod FewLaws
-pub mod Bytes
-pub mod Causes
