@@ -76,9 +76,9 @@ pub fn told(
 }
 
 /// The status of a call over a source, with sinks of ample room.
-pub fn answered(alloc: Global, content: &str) -> Result<Status, AllocError> {
+pub fn answered(alloc: Global, content: &str) -> Result<Status, Fail> {
     let mut files = SureFiles::new(held(alloc, content.as_bytes())?);
     let mut out = MemSink::new(alloc, 1_048_576, Vec::new(alloc))?;
     let mut err = MemSink::new(alloc, 64, Vec::new(alloc))?;
-    call(alloc, &COMPILE, &mut files, &mut out, &mut err)
+    Ok(call(alloc, &COMPILE, &mut files, &mut out, &mut err)?)
 }
