@@ -47,7 +47,7 @@ PlacesFormed sizes rank =
 abbrev pub LengthsFormed : ℕ → ℕ → Type 0
 LengthsFormed sizes rank = (ds : List Items) (in_length : Bool) → All (IsSize sizes) ds → length ds ≤ rank → index_formed sizes in_length (length_tree ds) 0 ≡ true
 
-outer_below : (loops d : ℕ) → d ≤ loops → VarsBelow loops (outer_variables loops d)
+pub outer_below : (loops d : ℕ) → d ≤ loops → VarsBelow loops (outer_variables loops d)
 outer_below loops zero h = λ i x l. absurd (omega arith)
 outer_below loops (suc d) h =
     all_last (λ x. (v : ℕ) × (v < loops) × (x ≡ var_form v)) (outer_variables loops d) (var_form (loops - 1 - d)) (outer_below loops d (omega arith)) (loops - 1 - d, omega arith, refl)
@@ -57,25 +57,22 @@ index_below [] v n e = absurd (cc)
 index_below (g ∷ gens) zero n e = omega arith
 index_below (g ∷ gens) (suc v) n e = let l = index_below gens v n e in omega arith
 
-indices_below : (gens xs : List Items) (ds : Extents) → IndicesFit gens xs ds → VarsBelow (length gens) xs
+pub indices_below : (gens xs : List Items) (ds : Extents) → IndicesFit gens xs ds → VarsBelow (length gens) xs
 indices_below gens [] [] h = λ i x l. absurd (omega arith)
 indices_below gens [] (n ∷ ds) h = absurd h
 indices_below gens (x ∷ xs) [] h = absurd h
 indices_below gens (x ∷ xs) (n ∷ ds) h =
     all_more (λ x. (v : ℕ) × (v < length gens) × (x ≡ var_form v)) x xs (h.0.0, index_below gens h.0.0 n h.0.2, h.0.1) (indices_below gens xs ds h.1)
 
-module _ (m : Module) (small : IsSmall m) (rank : ℕ) (places : PlacesFormed (length m.sizes) rank) (lengths : LengthsFormed (length m.sizes) rank) (ranks : All (λ d. length d.extents ≤ rank) m.inputs) where
-  abbrev program : Prog
-  program = program_of m
-
+module _ (m : Module) where
   -- a read: its variable is an input's, and its indices are those that are wanted there
-  record ReadIs (gens : List Items) (e : Term) (xs : List Items) : Type 0 where
-    read : Read
-    parts : parts_of e ≡ of_read (Some read)
-    there : read.var < length m.inputs
-    fits : IndicesFit gens (read.indices ++ xs) (get_or (input_shapes m) read.var [])
+  pub record ReadIs (gens : List Items) (e : Term) (xs : List Items) : Type 0 where
+    pub read : Read
+    pub parts : parts_of e ≡ of_read (Some read)
+    pub there : read.var < length m.inputs
+    pub fits : IndicesFit gens (read.indices ++ xs) (get_or (input_shapes m) read.var [])
 
-  read_is : (gens : List Items) (e : Term) (xs : List Items) → ReadFits (input_shapes m) gens e xs → ReadIs gens e xs
+  pub read_is : (gens : List Items) (e : Term) (xs : List Items) → ReadFits (input_shapes m) gens e xs → ReadIs gens e xs
   read_is gens (TVar q) xs h = record { read = record { var = q; indices = [] }; parts = fold-t_var Parts parts_step q; there = omega (arith, h.0, length-shapes m.inputs); fits = h.1 }
   read_is gens (index e x) xs h =
       let p = read_is gens e (x ∷ xs) h in
@@ -103,13 +100,17 @@ module _ (m : Module) (small : IsSmall m) (rank : ℕ) (places : PlacesFormed (l
   read_is gens (pad_l n e) xs h = absurd h
   read_is gens (pad_r n e) xs h = absurd h
 
+module _ (m : Module) (small : IsSmall m) (rank : ℕ) (places : PlacesFormed (length m.sizes) rank) (lengths : LengthsFormed (length m.sizes) rank) (ranks : All (λ d. length d.extents ≤ rank) m.inputs) where
+  abbrev program : Prog
+  program = program_of m
+
   -- a word is well formed, and is stored by a leaf
   abbrev Good : ℕ → Term → Type 0
   Good loops e = (word_formed program (word_loops e (input_sites m) loops) loops ≡ true) × (term_loops e ≡ leaf (word_loops e))
 
   read_good : (gens : List Items) (e : Term) → ReadFits (input_shapes m) gens e [] → Good (length gens) e
   read_good gens e h =
-      let p = read_is gens e [] h in
+      let p = read_is m gens e [] h in
       let q = p.read.var in
       let loops = length gens in
       let site : Site = record { buffer = Input (0 + q); offset = literal_form (pos 0); extents = get_or (input_shapes m) q [] } in

@@ -19,4 +19,6 @@ pub mod Exact
 pub mod FormedTree
 pub mod Third
 pub mod PlaceLaws
+pub mod RoomLaws
 pub mod Rows
+pub mod SmallRoom

@@ -69,8 +69,8 @@ terms_map (t ∷ ts) = ap (λ b. (number_fits t.coefficient && atom_fits t.atom)
 pub fits-items : (i : Items) → form_fits i ≡ (number_fits i.constant && terms_fit i.terms)
 fits-items i = fold_out-Items Bool Bool atom_fits_step form_fits_step i ∙ ap (λ b. number_fits i.constant && b) (terms_map i.terms)
 
--- what is left of a list of items at one of them
-pub rest_is : (ts : List (Item Atom)) (i : ℕ) (t : Item Atom) → t ≡ get_or ts i t → i < length ts → drop i ts ≡ t ∷ drop (i + 1) ts
+-- what is left of a list at one of its entries
+pub rest_is : {A : Type 0} (ts : List A) (i : ℕ) (t : A) → t ≡ get_or ts i t → i < length ts → drop i ts ≡ t ∷ drop (i + 1) ts
 rest_is ts i t e l = drop-cons ts i t l ∙ (λ j. sym e j ∷ drop (sym (add-one i) j) ts)
 
 pub rest_fits : (ts : List (Item Atom)) (i : ℕ) (t : Item Atom) → t ≡ get_or ts i t → i < length ts → terms_fit (drop i ts) ≡ true → ((number_fits t.coefficient && atom_fits t.atom) ≡ true) × (terms_fit (drop (i + 1) ts) ≡ true)

@@ -4,3 +4,4 @@ pub mod Lowered
 pub mod Correct
 pub mod Scatter
 pub mod Nest
+pub mod Room

@@ -1,12 +1,13 @@
 //! Lowering of modules.
 
-ghost use Rattle.std.specs.Prelude.{◌≡◌, ◌^◌, ◌<◌, ◌≤◌, ◌∷◌, [], IfOk, length, map, pos};
+ghost use Rattle.std.specs.Prelude.{◌≡◌, ◌^◌, ◌<◌, ◌≤◌, ◌∷◌, [], All, IfOk, length, map, pos};
 ghost use Rattle.loop_lang.specs.Actions.{Puts};
 ghost use Rattle.loop_lang.specs.Form.{IsWellFormed};
 ghost use Rattle.lowering.specs.Correct.{HasLengths, IsCorrect};
 ghost use Rattle.small_form.specs.SmallForm.{IsSmall};
 ghost use Rattle.lowering.specs.Lowered.{length_tree, loops_of, sites_from, term_loops};
 ghost use Rattle.lowering.specs.Nest.{gens_of, nest_program, nest_site};
+ghost use Rattle.lowering.specs.Room.{HasRoom, LeafInLimits, LengthInLimits, NestInLimits};
 
 use crate::index_tree::index_tree;
 use crate::nest::{gens_of, nest};
@@ -19,6 +20,7 @@ use std::alloc::Global;
 use term_tree::{InputDecl, Module, Term};
 
 fn length_tree(alloc: Global, extents: &[Aff]) -> Result<Iexp, LowerFault>
+    requires { LengthInLimits extents.now }
     ensures { IfOk result (λ t. t ≡ length_tree extents.now) }
 {
     let form = length_form(alloc, extents)?;
@@ -27,6 +29,7 @@ fn length_tree(alloc: Global, extents: &[Aff]) -> Result<Iexp, LowerFault>
 
 /// The lengths of the inputs.
 fn input_lengths(alloc: Global, inputs: &[InputDecl]) -> Result<Items<Iexp>, LowerFault>
+    requires { All (λ d. LengthInLimits d.extents) inputs.now }
     ensures { IfOk result (λ ts. ts ≡ map (λ d. length_tree d.extents) inputs.now) }
 {
     let mut all = Items::new(alloc);
@@ -43,7 +46,10 @@ fn statements(
     extents: &[Aff],
     term: &Term,
 ) -> Result<Items<Stmt>, LowerFault>
-    requires { length (gens_of term.now) < 2 ^ 32 }
+    requires gens { length (gens_of term.now) < 2 ^ 32 }
+    requires length { LengthInLimits extents.now }
+    requires place { LeafInLimits extents.now }
+    requires reads { NestInLimits inputs.now term.now }
     ensures { IfOk result (λ b. b ≡ Stmt.Zero (Buf.Output 0) (Iexp.Lit (pos 0)) (length_tree extents.now) ∷ term_loops term.now (sites_from 0 inputs.now) (nest_site 0 extents.now) [] 0 Puts) }
 {
     let length = length_tree(alloc, extents)?;
@@ -63,6 +69,7 @@ fn nest_program(
 ) -> Result<Prog, LowerFault>
     requires few { length inputs.now < 2 ^ 32 }
     requires gens { length (gens_of term.now) < 2 ^ 32 }
+    requires room { HasRoom inputs.now term.now }
     ensures { IfOk result (λ p. p ≡ nest_program sizes inputs.now term.now) }
 {
     let extents = gens_of(alloc, Items::new(alloc), term)?;

@@ -7,6 +7,7 @@ ghost use Rattle.lowering.specs.IndexTree.{index_tree};
 ghost use Rattle.lowering.specs.Frames.{row_place};
 ghost use Rattle.lowering.specs.Lowered.{leaf, of_read, read_of, sites_from, term_loops, word_loops};
 ghost use Rattle.lowering.specs.Nest.{gens_of, nest_frames, nest_site, outer_variables};
+ghost use Rattle.lowering.specs.Room.{LeafInLimits, NestInLimits, PlaceInLimits, ReadOfInLimits, WordInLimits};
 
 use crate::index_tree::index_tree;
 use crate::places::{copied, row_place, variables};
@@ -52,6 +53,7 @@ pub fn gens_of(alloc: Global, outer: Items<Aff>, term: &Term) -> Result<Items<Af
 
 /// The place of a word in an output.
 fn place_tree(alloc: Global, extents: &[Aff], loops: u32) -> Result<Iexp, LowerFault>
+    requires { LeafInLimits extents.now }
     ensures { IfOk result (λ t. t ≡ index_tree loops (row_place extents.now (outer_variables loops loops))) }
 {
     let indices = variables(alloc, loops)?;
@@ -76,6 +78,7 @@ fn leaf(
     loops: u32,
     word: Wexp,
 ) -> Result<Items<Stmt>, LowerFault>
+    requires { LeafInLimits extents.now }
     ensures { IfOk result (λ b. b ≡ Stmt.Put (Buf.Output number) (index_tree loops (row_place extents.now (outer_variables loops loops))) word ∷ []) }
 {
     let tree = place_tree(alloc, extents, loops)?;
@@ -104,6 +107,8 @@ fn read_leaf(
     loops: u32,
     term: &Term,
 ) -> Result<Items<Stmt>, LowerFault>
+    requires place { LeafInLimits extents.now }
+    requires read { ReadOfInLimits inputs.now term.now }
     ensures { IfOk result (λ b. b ≡ (of_read (read_of term.now)).loops (sites_from 0 inputs.now) (nest_site number extents.now) (nest_frames loops) loops Puts) }
 {
     match read_of(alloc, term)? {
@@ -123,6 +128,8 @@ fn word_leaf(
     loops: u32,
     term: &Term,
 ) -> Result<Items<Stmt>, LowerFault>
+    requires place { LeafInLimits extents.now }
+    requires word { WordInLimits inputs.now term.now }
     ensures { IfOk result (λ b. b ≡ leaf (word_loops term.now) (sites_from 0 inputs.now) (nest_site number extents.now) (nest_frames loops) loops Puts) }
 {
     let word = word(alloc, inputs, loops, term)?;
@@ -138,7 +145,9 @@ pub fn nest(
     loops: u32,
     term: &Term,
 ) -> Result<Items<Stmt>, LowerFault>
-    requires { loops + length (gens_of term.now) < 2 ^ 32 }
+    requires loops { loops + length (gens_of term.now) < 2 ^ 32 }
+    requires place { LeafInLimits extents.now }
+    requires reads { NestInLimits inputs.now term.now }
     ensures { IfOk result (λ b. b ≡ term_loops term.now (sites_from 0 inputs.now) (nest_site number extents.now) (nest_frames loops) loops Puts) }
 {
     match term {

@@ -6,9 +6,10 @@ ghost use Rattle.affine_index.specs.Product.{product_of};
 ghost use Rattle.affine_index.specs.Sum.{sum_of};
 ghost use Rattle.lowering.specs.Frames.{length_form, length_from, row_place, row_place_from};
 ghost use Rattle.lowering.specs.Nest.{outer_variables};
+ghost use Rattle.lowering.specs.Room.{InLimits, LengthFromInLimits, LengthInLimits, PlaceFromInLimits, PlaceInLimits, ProductInLimits, StepInLimits};
 
 use crate::refusal::LowerFault;
-use affine_index::Aff;
+use affine_index::{Aff, AffRefusal};
 use sqlite_items::Items;
 use std::alloc::Global;
 
@@ -50,25 +51,34 @@ fn variable(alloc: Global, var: u32) -> Result<Aff, LowerFault>
 }
 
 fn plus(alloc: Global, left: &Aff, right: &Aff) -> Result<Aff, LowerFault>
+    requires { InLimits (sum_of left.now right.now) }
     ensures { IfOk result (λ r. r ≡ sum_of left.now right.now) }
 {
     match left.add(alloc, right) {
         Ok(form) => Ok(form),
-        Err(_) => Err(LowerFault::Memory),
+        Err(AffRefusal::Memory) => Err(LowerFault::Memory),
+        Err(AffRefusal::CoefficientTooLarge)
+        | Err(AffRefusal::IndexTooLong)
+        | Err(AffRefusal::NotAffine) => unreachable!(),
     }
 }
 
 fn times(alloc: Global, left: &Aff, right: &Aff) -> Result<Aff, LowerFault>
+    requires { ProductInLimits left.now right.now }
     ensures { IfOk result (λ r. r ≡ product_of left.now right.now) }
 {
     match left.mul(alloc, right) {
         Ok(form) => Ok(form),
-        Err(_) => Err(LowerFault::Memory),
+        Err(AffRefusal::Memory) => Err(LowerFault::Memory),
+        Err(AffRefusal::CoefficientTooLarge)
+        | Err(AffRefusal::IndexTooLong)
+        | Err(AffRefusal::NotAffine) => unreachable!(),
     }
 }
 
 /// A place so far, and one more index in its extent.
 fn next_place(alloc: Global, place: &Aff, extent: &Aff, index: &Aff) -> Result<Aff, LowerFault>
+    requires { StepInLimits place.now extent.now index.now }
     ensures { IfOk result (λ r. r ≡ sum_of (product_of place.now extent.now) index.now) }
 {
     let rows = times(alloc, place, extent)?;
@@ -82,6 +92,7 @@ fn row_place_from(
     extents: &[Aff],
     indices: &[Aff],
 ) -> Result<Aff, LowerFault>
+    requires { PlaceFromInLimits first extents.now indices.now }
     ensures { IfOk result (λ x. x ≡ row_place_from first extents.now indices.now) }
 {
     let mut place = first;
@@ -96,6 +107,7 @@ fn row_place_from(
 
 /// The row-order place of indices in extents.
 pub fn row_place(alloc: Global, extents: &[Aff], indices: &[Aff]) -> Result<Aff, LowerFault>
+    requires { PlaceInLimits extents.now indices.now }
     ensures { IfOk result (λ x. x ≡ row_place extents.now indices.now) }
 {
     match (extents, indices) {
@@ -110,6 +122,7 @@ pub fn row_place(alloc: Global, extents: &[Aff], indices: &[Aff]) -> Result<Aff,
 
 /// A length so far, and more extents.
 fn length_from(alloc: Global, first: Aff, extents: &[Aff]) -> Result<Aff, LowerFault>
+    requires { LengthFromInLimits first extents.now }
     ensures { IfOk result (λ x. x ≡ length_from first extents.now) }
 {
     let mut length = first;
@@ -121,6 +134,7 @@ fn length_from(alloc: Global, first: Aff, extents: &[Aff]) -> Result<Aff, LowerF
 
 /// How many words a tensor of these extents has.
 pub fn length_form(alloc: Global, extents: &[Aff]) -> Result<Aff, LowerFault>
+    requires { LengthInLimits extents.now }
     ensures { IfOk result (λ x. x ≡ length_form extents.now) }
 {
     match extents {

@@ -3,6 +3,7 @@
 
 ghost use Rattle.std.specs.Prelude.{◌≡◌, IfOk};
 ghost use Rattle.lowering.specs.Lowered.{loaded, of_read, read_of, sites_from, word_loops};
+ghost use Rattle.lowering.specs.Room.{ReadInLimits, ReadOfInLimits, WordInLimits};
 
 use crate::index_tree::index_tree;
 use crate::places::row_place;
@@ -20,6 +21,7 @@ pub fn load(
     loops: u32,
     read: &Read,
 ) -> Result<Wexp, LowerFault>
+    requires { ReadInLimits inputs.now read.now }
     ensures { IfOk result (λ w. w ≡ loaded read.now (sites_from 0 inputs.now) loops) }
 {
     match at(inputs, read.var as usize) {
@@ -39,6 +41,7 @@ fn read_word(
     loops: u32,
     term: &Term,
 ) -> Result<Wexp, LowerFault>
+    requires { ReadOfInLimits inputs.now term.now }
     ensures { IfOk result (λ w. w ≡ (of_read (read_of term.now)).word (sites_from 0 inputs.now) loops) }
 {
     match read_of(alloc, term)? {
@@ -54,6 +57,7 @@ fn boxed(
     loops: u32,
     term: &Term,
 ) -> Result<Boxed<Wexp>, LowerFault>
+    requires room { WordInLimits inputs.now term.now }
     ensures { IfOk result (λ w. w ≡ word_loops term.now (sites_from 0 inputs.now) loops) }
 {
     let word = word(alloc, inputs, loops, term)?;
@@ -68,6 +72,7 @@ pub fn word(
     loops: u32,
     term: &Term,
 ) -> Result<Wexp, LowerFault>
+    requires room { WordInLimits inputs.now term.now }
     ensures { IfOk result (λ w. w ≡ word_loops term.now (sites_from 0 inputs.now) loops) }
 {
     match term {
