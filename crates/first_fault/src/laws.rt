@@ -1,0 +1,24 @@
+//! Laws of faults, each the contract of a function that does nothing.
+
+ghost use Rattle.first_fault.specs.First.{AssumeFaultsAreFirst, ConditionFaultsAreFirst};
+ghost use Rattle.first_fault.specs.First.{ExtentFaultsAreFirst, IndexFaultsAreFirst};
+
+/// The words before the word of an index's fault are the beginning of an index.
+pub fn index_faults_are_first()
+    ensures { IndexFaultsAreFirst }
+{}
+
+/// The words before the word of an extent's fault are the beginning of an extent.
+pub fn extent_faults_are_first()
+    ensures { ExtentFaultsAreFirst }
+{}
+
+/// The words before the word of a guard's fault are the beginning of a condition.
+pub fn condition_faults_are_first()
+    ensures { ConditionFaultsAreFirst }
+{}
+
+/// The words before the word of an assume's fault are the beginning of a condition over sizes.
+pub fn assume_faults_are_first()
+    ensures { AssumeFaultsAreFirst }
+{}
