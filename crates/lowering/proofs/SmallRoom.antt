@@ -1,8 +1,8 @@
 -- A module of the small form has room: its places and lengths are sums of at most three products of at most three sizes and variables.
-use Rattle.std.proofs.Common.{◌≡◌, ℕ, zero, suc, ◌+◌, ◌*◌, ◌^◌, ◌≤◌, List, [], ◌∷◌, ◌++◌, length, get_or, map, Some, Bool, true, false, ◌&&◌, ◌||◌, ◌⊎◌, inl, inr, refl, sym, ap, ◌∙◌, subst, arith}
+use Rattle.std.proofs.Common.{◌≡◌, ℕ, zero, suc, ◌+◌, ◌*◌, ◌^◌, ◌≤◌, List, [], ◌∷◌, ◌++◌, length, get_or, map, Some, true, false, ◌||◌, ◌⊎◌, inl, inr, refl, sym, ap, ◌∙◌, subst, arith}
 use Rattle.std.specs.Prelude.{All, slice_get}
 use Rattle.std.specs.Int.RustNames.{unsigned_abs}
-use Rattle.std.proofs.lemmas.Bool.{and_from, le-leb}
+use Rattle.std.proofs.lemmas.Bool.{and_from, and_right, le-leb}
 use Rattle.std.proofs.lemmas.List.{append-nil}
 use Rattle.affine_index.specs.declared.form.Atom.{Atom}
 use Rattle.affine_index.specs.declared.form.Atom.TheVariants.{Size, Var, Mul}
@@ -11,12 +11,11 @@ use Rattle.affine_index.specs.declared.form.Items.{Items}
 use Rattle.affine_index.specs.Count.{atom_count, total, terms_count}
 use Rattle.affine_index.specs.Form.{size_form, var_form}
 use Rattle.affine_index.specs.Normal.{coefficient_fits, terms_fit, holds_var}
-use Rattle.affine_index.specs.Product.{layer_factors, product_of}
+use Rattle.affine_index.specs.Product.{product_of}
 use Rattle.affine_index.specs.Sum.{sum_of}
 use Rattle.affine_index.specs.Wide.{terms_norm}
 use Rattle.affine_index.proofs.CountLaws.{count-Mul, count-Size, count-Var, count-items}
 use Rattle.affine_index.proofs.Induction.{Each}
-use Rattle.affine_index.proofs.ReadyLaws.{out-Size, out-Var}
 use Rattle.affine_index.proofs.Sorted.{EachItem}
 use Rattle.affine_index.proofs.VarLaws.{vars-Size, vars-items}
 use Rattle.term_tree.specs.declared.term.Term.{Term, Lit, TVar, WordOf}
@@ -30,14 +29,8 @@ use Rattle.lowering.specs.Nest.{gens_of, outer_variables}
 use Rattle.lowering.specs.Room.{InLimits, ProductInLimits, PlaceFromInLimits, PlaceInLimits, LengthFromInLimits, LengthInLimits, ReadOfInLimits, WordInLimits, NestInLimits, HasRoom}
 use Rattle.lowering.proofs.Few.{Plain, Nice, NiceForm, nice_more, nice_once, nice_sum, nice_times}
 use Rattle.lowering.proofs.Formed.{VarsBelow, outer_below, indices_below, read_is}
+use Rattle.lowering.proofs.Third.{size_alone, var_alone}
 use Rattle.lowering.proofs.Whole.{nest_here}
-
-and_false : (b : Bool) → (b && false) ≡ false
-and_false true = refl
-and_false false = refl
-
-some_same : {A : Type 0} {x y : A} → Some x ≡ Some y → x ≡ y
-some_same e = cc
 
 -- a base atom is one atom
 abbrev Single : Atom → Type 0
@@ -81,10 +74,10 @@ in_limits i p =
 
 -- a size and a variable as forms
 size_nice : (q : ℕ) → NiceForm Single 1 1 (size_form q)
-size_nice q = nice_once Single (Size q) (count-Size q) (ap (layer_factors (Size q)) (out-Size q))
+size_nice q = nice_once Single (Size q) (count-Size q) (size_alone q)
 
 var_nice : (v : ℕ) → NiceForm Single 1 1 (var_form v)
-var_nice v = nice_once Single (Var v) (count-Var v) (ap (layer_factors (Var v)) (out-Var v))
+var_nice v = nice_once Single (Var v) (count-Var v) (var_alone v)
 
 module _ (sizes : ℕ) where
   times_size : (x d : Items) (k n : ℕ) → IsSize sizes d → NiceForm Single k n x → NiceForm Single (suc k) n (product_of x d)
@@ -96,7 +89,7 @@ module _ (sizes : ℕ) where
   product_in_limits : (x d : Items) (k n : ℕ) → IsSize sizes d → NiceForm Single k n x → suc k ≤ 3 → n ≤ 3 → ProductInLimits x d
   product_in_limits x d k n h p a b =
       let product = nice_more Single (suc k) 3 n 3 (product_of x d) a b (times_size x d k n h p) in
-      (ap (λ v. holds_var x && v) (no_var d h) ∙ and_false (holds_var x), in_limits (product_of x d) product)
+      (and_right (holds_var x) (holds_var d) (no_var d h), in_limits (product_of x d) product)
 
   place_from : (loops : ℕ) (ds ys : List Items) (x : Items) (k n : ℕ) → All (IsSize sizes) ds → VarsBelow loops ys → NiceForm Single k n x
       → k + length ds ≤ 3 → n + length ds ≤ 3 → PlaceFromInLimits x ds ys
@@ -147,7 +140,8 @@ module _ (m : Module) (small : IsSmall m) where
   read_room : (gens : List Items) (e : Term) → ReadFits (input_shapes m) gens e [] → ReadOfInLimits m.inputs e
   read_room gens e h r is d found =
       let p = read_is m gens e [] h in
-      let same : p.read ≡ r = some_same (sym (ap (λ q. q.read) p.parts) ∙ is) in
+      let here : Some p.read ≡ Some r = sym (ap (λ q. q.read) p.parts) ∙ is in
+      let same : p.read ≡ r = cc in
       let at : slice_get m.inputs p.read.var ≡ Some d = ap (λ q. slice_get m.inputs q.var) same ∙ found in
       let all_below = indices_below gens (p.read.indices ++ []) (get_or (input_shapes m) p.read.var []) p.fits in
       let below : VarsBelow (length gens) p.read.indices = subst (VarsBelow (length gens)) (append-nil p.read.indices) all_below in

@@ -33,10 +33,10 @@ use Rattle.lowering.proofs.Few.{NiceForm, nice_more, nice_once, nice_sum, nice_t
 use Rattle.lowering.proofs.Exact.{BaseAt, exact}
 use Rattle.lowering.proofs.FormedTree.{BaseFormed, tree_formed}
 
-size_alone : (q : ℕ) → factors_of (Size q) ≡ Size q ∷ []
+pub size_alone : (q : ℕ) → factors_of (Size q) ≡ Size q ∷ []
 size_alone q = ap (layer_factors (Size q)) (out-Size q)
 
-var_alone : (v : ℕ) → factors_of (Var v) ≡ Var v ∷ []
+pub var_alone : (v : ℕ) → factors_of (Var v) ≡ Var v ∷ []
 var_alone v = ap (layer_factors (Var v)) (out-Var v)
 
 -- the loop variables from the innermost
