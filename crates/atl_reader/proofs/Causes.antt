@@ -32,7 +32,7 @@ same_fault e g h = cc
 placed : (z : Text) (e : Fault) (at : ℕ) → IsUtf8 z → IsFaulty z e at → IsCause z (fault_at e at)
 placed z f.BadToken at u h = (u, h)
 placed z f.TooDeep at u h = (u, inl h)
-placed z f.BadSyntax at u h = (u, inl h)
+placed z f.BadSyntax at u h = (u, h)
 placed z f.NumberTooLarge at u h = (u, h)
 placed z f.ReservedName at u h = (u, h)
 placed z f.NameTwice at u h = (u, h)
@@ -40,7 +40,6 @@ placed z f.UnknownName at u h = (u, h)
 placed z f.NotAffine at u h = (u, h)
 placed z f.CoefficientTooLarge at u h = (u, h)
 placed z f.IndexTooLong at u h = (u, h)
-placed z f.NotBuilt at u h = (u, inr h)
 
 over : (n : ℕ) → nat_lt 20000 n ≡ true → 20000 < n
 over n h = grind arith

@@ -45,7 +45,6 @@ fault_at f.UnknownName at = UnknownName at
 fault_at f.NotAffine at = NotAffine at
 fault_at f.CoefficientTooLarge at = CoefficientTooLarge at
 fault_at f.IndexTooLong at = IndexTooLong at
-fault_at f.NotBuilt at = BadSyntax at
 
 abbrev pub fault_of : ReadError → ReadFault
 fault_of early.Memory = Memory
@@ -120,7 +119,7 @@ IsFaulty z fault at = IsRefusedAt (language (version_of z)) (IsSource (version_o
 abbrev pub IsCause : Text → ReadFault → Type 0
 IsCause z (NotUtf8 at) = (is_utf8 z ≡ false) × (at ≡ utf8_valid_len z)
 IsCause z (BadToken at) = IsUtf8 z × IsFaulty z f.BadToken at
-IsCause z (BadSyntax at) = IsUtf8 z × (IsFaulty z f.BadSyntax at ⊎ IsFaulty z f.NotBuilt at)
+IsCause z (BadSyntax at) = IsUtf8 z × IsFaulty z f.BadSyntax at
 IsCause z (TooDeep at) = IsUtf8 z × (IsFaulty z f.TooDeep at ⊎ IsDeep z at)
 IsCause z (UnknownName at) = IsUtf8 z × IsFaulty z f.UnknownName at
 IsCause z (NameTwice at) = IsUtf8 z × IsFaulty z f.NameTwice at

@@ -47,7 +47,6 @@ fn placed(fault: Fault, at: u64) -> ReadFault
         Fault::NotAffine => ReadFault::NotAffine { at },
         Fault::CoefficientTooLarge => ReadFault::CoefficientTooLarge { at },
         Fault::IndexTooLong => ReadFault::IndexTooLong { at },
-        Fault::NotBuilt => ReadFault::BadSyntax { at },
     }
 }
 

@@ -20,8 +20,6 @@ pub enum Fault {
     NotAffine,
     CoefficientTooLarge,
     IndexTooLong,
-    /// A form that is not read yet.
-    NotBuilt,
 }
 
 #[derive(Clone, Copy, Debug, PartialEq, Eq)]
