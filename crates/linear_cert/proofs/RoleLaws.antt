@@ -300,7 +300,7 @@ find-more r k (x ∷ xs) (suc n) h =
     by : (b : Bool)
         → find_role r (suc k) (take (suc n) xs) ≡ option_or (find_role r (suc k) (take n xs)) (if same_role r (role_at xs n) then Some (k + suc n) else None)
         → (if b then Some k else find_role r (suc k) (take (suc n) xs))
-            ≡ option_or (if b then Some k else find_role r (suc k) (take n xs)) (if same_role r (role_at xs n) then Some (k + suc n) else None)
+        ≡ option_or (if b then Some k else find_role r (suc k) (take n xs)) (if same_role r (role_at xs n) then Some (k + suc n) else None)
     by true h = refl
     by false h = h
 
