@@ -125,7 +125,7 @@ fn compared(maxima: &[u64], vars: &[u64], cmps: &[Cmp], first: u64) -> Result<u6
 }
 
 /// The extents of a tensor variable.
-fn extents_at<'a>(shapes: &'a Shapes, var: u32) -> &'a [Aff]
+pub fn extents_at<'a>(shapes: &'a Shapes, var: u32) -> &'a [Aff]
     ensures { result.now ≡ get_or (given shapes.now) var [] }
 {
     let lets = shapes.lets.len();

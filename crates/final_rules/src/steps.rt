@@ -42,7 +42,7 @@ pub fn rest_of(extents: Items<Aff>) -> Items<Aff>
 }
 
 /// Inside the guard of these comparisons.
-fn guarded(alloc: Global, spot: &Spot, cond: &Cond) -> Result<Spot, AllocError>
+pub fn guarded(alloc: Global, spot: &Spot, cond: &Cond) -> Result<Spot, AllocError>
     ensures spot { IfOk result (λ q. q ≡ on_path (Holds cond.now) spot.now) }
     ensures few { IfOk result (λ q. length q.path ≤ 2147483647) }
 {
