@@ -1,5 +1,6 @@
 -- Constraints that an example keeps, and goals that are shown.
-use Rattle.std.proofs.Common.{◌≡◌, ℕ, suc, ◌+◌, ◌<◌, List, [], ◌∷◌, ◌++◌, length, map, drop, drop-cons, add-one, get_or, refl, ap, sym, ◌∙◌, arith, Bool, true, false, ◌&&◌, nat_le, Option, None, Some}
+use Rattle.std.proofs.Common.{◌≡◌, ℕ, suc, ◌+◌, ◌<◌, List, [], ◌∷◌, ◌++◌, length, map, drop, drop-cons, add-one, get_or, refl, ap, sym, ◌∙◌, arith, Bool, true}
+use Rattle.std.proofs.Common.{false, ◌&&◌, nat_le, Option, None, Some}
 use Rattle.std.specs.Option.{option_map}
 use Rattle.std.specs.Prelude.{ℤ}
 use Rattle.std.proofs.lemmas.Bool.{and_from, and_parts, leb-true}
@@ -76,7 +77,8 @@ within_bounds m (d ∷ ds) (n ∷ ns) e h =
     (leb-true d.low n b.0, leb-true n d.high b.1, within_bounds (suc m) ds ns (omega (arith, e)) p.1)
 
 -- an assume that holds as far as it is computed holds
-held : (s : List ℕ) (c : Cmp) (o : Option ℤ) → ((x : ℤ) → o ≡ Some x → x ≡ items_value s [] (cmp_form c)) → is_held (option_map (cmp_at c) o) ≡ true → cmp_holds s [] c ≡ true
+held : (s : List ℕ) (c : Cmp) (o : Option ℤ) → ((x : ℤ) → o ≡ Some x → x ≡ items_value s [] (cmp_form c)) → is_held (option_map (cmp_at c) o) ≡ true
+    → cmp_holds s [] c ≡ true
 held s c None value h = absurd (cc)
 held s c (Some x) value h = ap (cmp_at c) (sym (value x refl)) ∙ h
 
@@ -84,7 +86,8 @@ assumes_hold : (n : ℕ) (s : List ℕ) (cs : List Cmp) → first_false n (map (
 assumes_hold n s [] h = refl
 assumes_hold n s (c ∷ cs) h =
     let p = none_false n (assume_holds s c) (map (assume_holds s) cs) h in
-    and_from (cmp_holds s [] c) (all_hold s [] cs) (held s c (limited_value s [] (cmp_form c)) (value-agrees s [] (cmp_form c)) p.0) (assumes_hold (suc n) s cs p.1)
+    and_from (cmp_holds s [] c) (all_hold s [] cs) (held s c (limited_value s [] (cmp_form c)) (value-agrees s [] (cmp_form c)) p.0)
+    (assumes_hold (suc n) s cs p.1)
 
 -- an example that keeps each constraint is allowed
 pub example_allowed : (m : Module) → length m.example ≡ length m.sizes → first_false 1 (kept m) ≡ None → Allowed m m.example

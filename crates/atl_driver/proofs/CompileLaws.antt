@@ -20,7 +20,8 @@ use Rattle.atl_reader.specs.Source.{Answers as Reads}
 use Rattle.lowering.specs.Correct.{HasLengths, IsCorrect}
 use Rattle.lowering.specs.Lowered.{loops_of}
 use Rattle.c_print.specs.Program.{canonical_text}
-use Rattle.atl_driver.specs.Compile.{Answers, Tells, TellsAdmission, TellsFault, admission_fault_of, compiled, compiled_as, fault_of, judged_as, module_compiled, not_built, text_if}
+use Rattle.atl_driver.specs.Compile.{Answers, Tells, TellsAdmission, TellsFault, admission_fault_of, compiled, compiled_as, fault_of, judged_as}
+use Rattle.atl_driver.specs.Compile.{module_compiled, not_built, text_if}
 use Rattle.atl_driver.specs.Correct.{AreLoops, IsAdmitted, IsCompiled, IsRefusedSource, IsTextOf}
 use Rattle.atl_driver.specs.declared.compile.CompileRefusal.{CompileRefusal}
 use Rattle.atl_driver.specs.declared.compile.CompileRefusal.TheVariants.{Refused, Memory}
@@ -36,7 +37,8 @@ text_of_one z m reads only = record { reads = reads; only = λ other is. same_mo
 module _ {A : Type 0} where
   -- the text of a program that is lowered from the module
   pub are_loops : (m : Module) (p : Prog) (r : Result (Vec ℕ A) CompileRefusal) → p ≡ loops_of m → IsWellFormed p → HasLengths m p → IsCorrect m p
-      → MatchResult r (λ text. text.items ≡ canonical_text p) (λ refusal. refusal ≡ Memory) → MatchResult r (λ text. AreLoops m text.items) (λ refusal. refusal ≡ Memory)
+      → MatchResult r (λ text. text.items ≡ canonical_text p) (λ refusal. refusal ≡ Memory)
+      → MatchResult r (λ text. AreLoops m text.items) (λ refusal. refusal ≡ Memory)
   are_loops m p (Ok text) loops formed lengths correct prints =
       record { program = p; loops = loops; prints = prints; formed = formed; lengths = lengths; correct = correct }
   are_loops m p (Err e) loops formed lengths correct h = h
@@ -48,7 +50,8 @@ module _ {A : Type 0} where
   small_answers m (Err (Refused fault)) e h = absurd (cc)
   small_answers m (Err Memory) e h = tt
 
-  pub small_loops : (m : Module) (r : Result (Vec ℕ A) CompileRefusal) → MatchResult r (λ text. AreLoops m text.items) (λ refusal. refusal ≡ Memory) → IfOk r (λ text. AreLoops m text.items)
+  pub small_loops : (m : Module) (r : Result (Vec ℕ A) CompileRefusal) → MatchResult r (λ text. AreLoops m text.items) (λ refusal. refusal ≡ Memory)
+      → IfOk r (λ text. AreLoops m text.items)
   small_loops m (Ok text) h = h
   small_loops m (Err e) h = tt
 
@@ -57,12 +60,14 @@ module _ {A : Type 0} where
   unfolding module_compiled
   admitted_answers m r a h = subst (λ (o : Option AdmissionFault). Answers (judged_as o m) r) (sym a) h
 
-  pub admitted_loops : (m : Module) (r : Result (Vec ℕ A) CompileRefusal) → IsAdmitted m → IfOk r (λ text. AreLoops m text.items) → IfOk r (λ text. IsAdmitted m × AreLoops m text.items)
+  pub admitted_loops : (m : Module) (r : Result (Vec ℕ A) CompileRefusal) → IsAdmitted m → IfOk r (λ text. AreLoops m text.items)
+      → IfOk r (λ text. IsAdmitted m × AreLoops m text.items)
   admitted_loops m (Ok text) a h = (a, h)
   admitted_loops m (Err e) a h = tt
 
   -- of a source that is read
-  pub answers_read : (z : List ℕ) (m : Module) (r : Result (Vec ℕ A) CompileRefusal) → read_source z ≡ Ok m → Answers (module_compiled m) r → Answers (compiled z) r
+  pub answers_read : (z : List ℕ) (m : Module) (r : Result (Vec ℕ A) CompileRefusal) → read_source z ≡ Ok m → Answers (module_compiled m) r
+      → Answers (compiled z) r
   unfolding compiled
   answers_read z m r e h = subst (λ (o : Result Module ReadFault). Answers (compiled_as o) r) (sym e) h
 
@@ -92,12 +97,14 @@ module _ {A : Type 0} where
           inr (inl (record { origin = m; reads = reads; broken = broken; first = e; told = sym same }))
 
 -- of a module of another form
-pub large_answers : (A : Type 0) (m : Module) (refusal : CompileRefusal) → is_small m ≡ false → TellsFault not_built refusal → Answers {A = A} (text_if (is_small m) m) (Err refusal)
+pub large_answers : (A : Type 0) (m : Module) (refusal : CompileRefusal) → is_small m ≡ false → TellsFault not_built refusal
+    → Answers {A = A} (text_if (is_small m) m) (Err refusal)
 large_answers A m (Refused told) e h = ap (λ b. text_if b m) e ∙ ap (λ (f : Fault). Err f) (sym h)
 large_answers A m Memory e h = tt
 
 -- of a module that is not admitted
-pub unadmitted_answers : (A : Type 0) (m : Module) (fault : AdmissionFault) (refusal : CompileRefusal) → Judges (admission_fault m) fault → TellsAdmission fault refusal
+pub unadmitted_answers : (A : Type 0) (m : Module) (fault : AdmissionFault) (refusal : CompileRefusal) → Judges (admission_fault m) fault
+    → TellsAdmission fault refusal
     → Answers {A = A} (module_compiled m) (Err refusal)
 unfolding module_compiled
 unadmitted_answers A m fault Memory judges tells = tt
@@ -111,7 +118,8 @@ unadmitted_answers A m fault (Refused told) judges tells =
     due admission.Memory h n = absurd (n refl)
 
 -- of a source that is not read
-pub answers_unread : (A : Type 0) (z : List ℕ) (fault : ReadFault) (refusal : CompileRefusal) → Reads (Err fault) (read_source z) → Tells fault refusal → Answers {A = A} (compiled z) (Err refusal)
+pub answers_unread : (A : Type 0) (z : List ℕ) (fault : ReadFault) (refusal : CompileRefusal) → Reads (Err fault) (read_source z) → Tells fault refusal
+    → Answers {A = A} (compiled z) (Err refusal)
 unfolding compiled
 answers_unread A z fault (Refused told) exact tells = ap compiled_as (exact tells.1) ∙ ap (λ (f : Fault). Err f) (sym tells.0)
 answers_unread A z fault Memory exact tells = tt
@@ -119,13 +127,15 @@ answers_unread A z fault Memory exact tells = tt
 not_ok : {P : Type 0} (fault : ReadFault) (m : Module) → Reads (Err fault) (Ok m) → fault ≢ read.Memory → P
 not_ok fault m h sure = let e = h sure in absurd (cc)
 
-told_is : (fault : ReadFault) (refusal : CompileRefusal) (told : Fault) → Tells fault refusal → refusal ≡ Refused told → (told ≡ fault_of fault) × (fault ≢ read.Memory)
+told_is : (fault : ReadFault) (refusal : CompileRefusal) (told : Fault) → Tells fault refusal → refusal ≡ Refused told → (told ≡ fault_of fault)
+    × (fault ≢ read.Memory)
 told_is fault (Refused f) told tells is = let same : f ≡ told = cc in (sym same ∙ tells.0, tells.1)
 told_is fault Memory told tells is = absurd (cc)
 
 -- a fault that is told of a source that is not read
 pub refused_unread : (A : Type 0) (z : List ℕ) (fault : ReadFault) (refusal : CompileRefusal) → IsCause z fault
-    → ((m : Module) → SourceText z m → Reads (Err fault) (Ok m)) → Tells fault refusal → (told : Fault) → IsErrOf {T = Vec ℕ A} (Err refusal) (Refused told) → IsRefusedSource z told
+    → ((m : Module) → SourceText z m → Reads (Err fault) (Ok m)) → Tells fault refusal → (told : Fault) → IsErrOf {T = Vec ℕ A} (Err refusal) (Refused told)
+    → IsRefusedSource z told
 refused_unread A z fault refusal is_cause only tells told is =
     let same : refusal ≡ Refused told = cc in
     let cause = told_is fault refusal told tells same in

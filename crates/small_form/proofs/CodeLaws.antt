@@ -25,7 +25,8 @@ pub nest-Gen : (sizes : ℕ) (inputs : List InputDecl) (room : ℕ) (gens : List
 nest-Gen sizes inputs room gens n e = ap (nest_fits sizes inputs (suc room) gens) (Gen-is n e)
 
 -- one gen more, over a size that there is
-pub nest-next : (sizes : ℕ) (inputs : List InputDecl) (room k : ℕ) (gens : List ℕ) (n : Aff) (e : Term) → 0 < room → lone_size n ≡ Some k → nat_lt k sizes ≡ true
+pub nest-next : (sizes : ℕ) (inputs : List InputDecl) (room k : ℕ) (gens : List ℕ) (n : Aff) (e : Term) → 0 < room → lone_size n ≡ Some k
+    → nat_lt k sizes ≡ true
     → nest_fits sizes inputs room gens (variant.Gen n e) ≡ nest_fits sizes inputs (room - 1) (k ∷ gens) e
 nest-next sizes inputs zero k gens n e h found below = absurd (omega (arith, h))
 nest-next sizes inputs (suc room) k gens n e h found below =

@@ -1,5 +1,6 @@
 -- What is found to be small is small.
-use Rattle.std.proofs.Common.{◌≡◌, ℕ, zero, suc, ◌<◌, ◌≤◌, List, [], ◌∷◌, length, map, get_or, refl, ap, sym, subst, ◌∙◌, arith, Bool, true, false, ◌&&◌, nat_le, nat_lt, Option, None, Some, Result, Ok, Err}
+use Rattle.std.proofs.Common.{◌≡◌, ℕ, zero, suc, ◌<◌, ◌≤◌, List, [], ◌∷◌, length, map, get_or, refl, ap, sym, subst, ◌∙◌, arith, Bool, true, false, ◌&&◌}
+use Rattle.std.proofs.Common.{nat_le, nat_lt, Option, None, Some, Result, Ok, Err}
 use Rattle.std.specs.Prelude.{IfOk, All, slice_get, ℤ, pos, ◌^◌, ◌==◌, if◌then◌else◌}
 use Rattle.std.specs.Ordering.{int_eq}
 use Rattle.std.proofs.lemmas.Bool.{and_parts, leb-true, ltb-true, eqb-true}
@@ -39,16 +40,19 @@ var_is (Atom-F.Mul fs) k e = absurd (cc)
 
 -- a form that is one atom, taken once
 module _ (tell : Atom-F Atom Items → Option ℕ) (k : ℕ) where
-  one_term : (us : List (Item Atom)) → t.alone_in tell us ≡ Some k → (u : Item Atom) × (us ≡ u ∷ []) × (u.coefficient ≡ pos 1) × (tell (out-Atom u.atom) ≡ Some k)
+  one_term : (us : List (Item Atom)) → t.alone_in tell us ≡ Some k → (u : Item Atom) × (us ≡ u ∷ []) × (u.coefficient ≡ pos 1)
+      × (tell (out-Atom u.atom) ≡ Some k)
   one_term [] e = absurd (cc)
   one_term (u ∷ []) e = by (int_eq u.coefficient (pos 1)) refl e
     where
-      by : (b : Bool) → int_eq u.coefficient (pos 1) ≡ b → (if b then tell (out-Atom u.atom) else None) ≡ Some k → (v : Item Atom) × (u ∷ [] ≡ v ∷ []) × (v.coefficient ≡ pos 1) × (tell (out-Atom v.atom) ≡ Some k)
+      by : (b : Bool) → int_eq u.coefficient (pos 1) ≡ b → (if b then tell (out-Atom u.atom) else None) ≡ Some k → (v : Item Atom) × (u ∷ [] ≡ v ∷ [])
+          × (v.coefficient ≡ pos 1) × (tell (out-Atom v.atom) ≡ Some k)
       by true is e = (u, refl, is_one u.coefficient 1 is, e)
       by false is e = absurd (cc)
   one_term (u ∷ v ∷ us) e = absurd (cc)
 
-  pub one_atom : (i : Items) → t.alone tell i ≡ Some k → (a : Atom) × (i ≡ record { terms = record { atom = a; coefficient = pos 1 } ∷ []; constant = pos 0 }) × (tell (out-Atom a) ≡ Some k)
+  pub one_atom : (i : Items) → t.alone tell i ≡ Some k → (a : Atom) × (i ≡ record { terms = record { atom = a; coefficient = pos 1 } ∷ []; constant = pos 0 })
+      × (tell (out-Atom a) ≡ Some k)
   one_atom i e = by (int_eq i.constant (pos 0)) refl e
     where
       by : (b : Bool) → int_eq i.constant (pos 0) ≡ b → (if b then t.alone_in tell i.terms else None) ≡ Some k
@@ -89,11 +93,13 @@ get-map (g ∷ gs) (suc v) k e = get-map gs v k e
 index_from : (gens : List ℕ) (x n : Items) → t.index_fits gens x n ≡ true → (v : ℕ) × (x ≡ var_form v) × (slice_get (forms gens) v ≡ Some n)
 index_from gens x n h = by (t.lone_var x) (t.lone_size n) refl refl h
   where
-    by : (o p : Option ℕ) → t.lone_var x ≡ o → t.lone_size n ≡ p → t.are_same (t.gen_of gens o) p ≡ true → (v : ℕ) × (x ≡ var_form v) × (slice_get (forms gens) v ≡ Some n)
+    by : (o p : Option ℕ) → t.lone_var x ≡ o → t.lone_size n ≡ p → t.are_same (t.gen_of gens o) p ≡ true → (v : ℕ) × (x ≡ var_form v)
+        × (slice_get (forms gens) v ≡ Some n)
     by None p e f h = absurd (cc)
     by (Some v) p e f h = with_gen (slice_get gens v) refl p f h
       where
-        with_gen : (g : Option ℕ) → slice_get gens v ≡ g → (p : Option ℕ) → t.lone_size n ≡ p → t.are_same g p ≡ true → (v : ℕ) × (x ≡ var_form v) × (slice_get (forms gens) v ≡ Some n)
+        with_gen : (g : Option ℕ) → slice_get gens v ≡ g → (p : Option ℕ) → t.lone_size n ≡ p → t.are_same g p ≡ true → (v : ℕ) × (x ≡ var_form v)
+            × (slice_get (forms gens) v ≡ Some n)
         with_gen None q p f h = absurd (cc)
         with_gen (Some a) q None f h = absurd (cc)
         with_gen (Some a) q (Some b) f h =
@@ -104,20 +110,24 @@ module _ (inputs : List InputDecl) (gens : List ℕ) where
   shapes = map (λ d. d.extents) inputs
 
   -- where an index fits, it stands before an extent that it fits
-  split_index : (x : Items) (ns : Extents) (o : Option Extents) → t.after_index gens x o ≡ Some ns → (n : Items) × (o ≡ Some (n ∷ ns)) × (t.index_fits gens x n ≡ true)
+  split_index : (x : Items) (ns : Extents) (o : Option Extents) → t.after_index gens x o ≡ Some ns → (n : Items) × (o ≡ Some (n ∷ ns))
+      × (t.index_fits gens x n ≡ true)
   split_index x ns None k = absurd (cc)
   split_index x ns (Some []) k = absurd (cc)
   split_index x ns (Some (n ∷ ms)) k = fits (t.index_fits gens x n) refl k
     where
-      fits : (b : Bool) → t.index_fits gens x n ≡ b → (if b then Some ms else None) ≡ Some ns → (m : Items) × (Some (n ∷ ms) ≡ Some (m ∷ ns)) × (t.index_fits gens x m ≡ true)
+      fits : (b : Bool) → t.index_fits gens x n ≡ b → (if b then Some ms else None) ≡ Some ns → (m : Items) × (Some (n ∷ ms) ≡ Some (m ∷ ns))
+          × (t.index_fits gens x m ≡ true)
       fits false i k = absurd (cc)
       fits true i k = let same : ms ≡ ns = cc in (n, ap (λ ms. Some (n ∷ ms)) same, i)
 
   -- the indices that are still to come fit the extents that are left
-  read_from : (e : Term) (ns : Extents) (xs : List Items) → t.rest_of inputs gens e ≡ Some ns → IndicesFit (forms gens) xs ns → ReadFits shapes (forms gens) e xs
+  read_from : (e : Term) (ns : Extents) (xs : List Items) → t.rest_of inputs gens e ≡ Some ns → IndicesFit (forms gens) xs ns
+      → ReadFits shapes (forms gens) e xs
   read_from (TVar q) ns xs e h = declared inputs q e
     where
-      declared : (ds : List InputDecl) (q : ℕ) → t.rest_extents (slice_get ds q) ≡ Some ns → (q < length (map (λ d. d.extents) ds)) × IndicesFit (forms gens) xs (get_or (map (λ d. d.extents) ds) q [])
+      declared : (ds : List InputDecl) (q : ℕ) → t.rest_extents (slice_get ds q) ≡ Some ns → (q < length (map (λ d. d.extents) ds))
+          × IndicesFit (forms gens) xs (get_or (map (λ d. d.extents) ds) q [])
       declared [] q e = absurd (cc)
       declared (d ∷ ds) zero e =
           let same : d.extents ≡ ns = cc in
@@ -218,7 +228,8 @@ all_sizes sizes [] h k d l = absurd (omega (arith, l))
 all_sizes sizes (n ∷ ns) h zero d l = size_from sizes n (and_parts (t.is_size sizes n) (t.extents_fit sizes ns) h).0
 all_sizes sizes (n ∷ ns) h (suc k) d l = all_sizes sizes ns (and_parts (t.is_size sizes n) (t.extents_fit sizes ns) h).1 k d (omega (arith, l))
 
-first_input : (sizes : ℕ) (d : InputDecl) (ds : List InputDecl) → t.inputs_fit sizes (d ∷ ds) ≡ true → (nat_le (length d.extents) most_extents && t.extents_fit sizes d.extents) ≡ true
+first_input : (sizes : ℕ) (d : InputDecl) (ds : List InputDecl) → t.inputs_fit sizes (d ∷ ds) ≡ true
+    → (nat_le (length d.extents) most_extents && t.extents_fit sizes d.extents) ≡ true
 first_input sizes d ds h = (and_parts (nat_le (length d.extents) most_extents && t.extents_fit sizes d.extents) (t.inputs_fit sizes ds) h).0
 
 rest_inputs : (sizes : ℕ) (d : InputDecl) (ds : List InputDecl) → t.inputs_fit sizes (d ∷ ds) ≡ true → t.inputs_fit sizes ds ≡ true

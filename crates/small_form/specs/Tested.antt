@@ -1,5 +1,6 @@
 -- The small form as a test of modules.
-use Rattle.std.specs.Prelude.{ℕ, zero, suc, Bool, true, false, ◌&&◌, ◌==◌, ◌^◌, nat_le, nat_lt, if◌then◌else◌, List, [], ◌∷◌, length, slice_get, Option, Some, None, pos}
+use Rattle.std.specs.Prelude.{ℕ, zero, suc, Bool, true, false, ◌&&◌, ◌==◌, ◌^◌, nat_le, nat_lt, if◌then◌else◌, List, [], ◌∷◌, length, slice_get, Option, Some}
+use Rattle.std.specs.Prelude.{None, pos}
 use Rattle.std.specs.Ordering.{int_eq}
 use Rattle.affine_index.specs.declared.form.Atom.{Atom, out-Atom}
 use Rattle.affine_index.specs.declared.form.Atom.TheOpen.{Atom-F}

@@ -16,5 +16,6 @@ returns-in-None c =
     let tests = map (assume_holds m.example) m.assumes in
     let from : length c.as_slice-sizes.result.now + 1 ≡ 1 + length (within m.sizes m.example) =
     ap (λ xs. length xs + 1) c.as_slice-sizes.ensures ∙ ap (λ k. k + 1) (sym (within-length m.sizes m.example)) ∙ omega arith in
-    c.broken_assume.ensures ∙ (λ i. first_false (length c.as_slice-sizes.result.now + 1) (map (assume_holds (c.as_slice-example.ensures i)) (c.as_slice.ensures i)))
+    c.broken_assume.ensures
+    ∙ (λ i. first_false (length c.as_slice-sizes.result.now + 1) (map (assume_holds (c.as_slice-example.ensures i)) (c.as_slice.ensures i)))
     ∙ ap (λ k. first_false k tests) from ∙ sym (first_behind 1 (within m.sizes m.example) tests none)

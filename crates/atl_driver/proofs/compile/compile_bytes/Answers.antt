@@ -18,20 +18,24 @@ pub module_text-text-requires-clause-example : goal.module_text-text-requires-cl
 module_text-text-requires-clause-example c = c.in-Ok.ensures.example
 
 pub returns-in-Ok-clause-answers : goal.returns-in-Ok-clause-answers
-returns-in-Ok-clause-answers c = answers_read c.args.source.now c.in-Ok.module c.module_text-text.result c.in-Ok.ensures.exact c.module_text-text.ensures.answers
+returns-in-Ok-clause-answers c = answers_read c.args.source.now c.in-Ok.module c.module_text-text.result c.in-Ok.ensures.exact
+    c.module_text-text.ensures.answers
 
 pub returns-in-Ok-clause-correct : goal.returns-in-Ok-clause-correct
 returns-in-Ok-clause-correct c =
-    compiled_read c.args.source.now c.in-Ok.module c.module_text-text.result (text_of_one c.args.source.now c.in-Ok.module c.in-Ok.ensures.found c.in-Ok.ensures.only)
+    compiled_read c.args.source.now c.in-Ok.module c.module_text-text.result
+    (text_of_one c.args.source.now c.in-Ok.module c.in-Ok.ensures.found c.in-Ok.ensures.only)
     c.module_text-text.ensures.loops
 
 pub returns-in-Ok-clause-refused : goal.returns-in-Ok-clause-refused
 returns-in-Ok-clause-refused c =
-    refused_read c.args.source.now c.in-Ok.module c.module_text-text.result (text_of_one c.args.source.now c.in-Ok.module c.in-Ok.ensures.found c.in-Ok.ensures.only)
+    refused_read c.args.source.now c.in-Ok.module c.module_text-text.result
+    (text_of_one c.args.source.now c.in-Ok.module c.in-Ok.ensures.found c.in-Ok.ensures.only)
     c.module_text-text.ensures.answers
 
 pub returns-in-Err-clause-answers : goal.returns-in-Err-clause-answers
 returns-in-Err-clause-answers c = answers_unread Global c.args.source.now c.in-Err.fault c.unread.result c.in-Err.ensures.exact c.unread.ensures
 
 pub returns-in-Err-clause-refused : goal.returns-in-Err-clause-refused
-returns-in-Err-clause-refused c = refused_unread Global c.args.source.now c.in-Err.fault c.unread.result c.in-Err.ensures.refused c.in-Err.ensures.only c.unread.ensures
+returns-in-Err-clause-refused c = refused_unread Global c.args.source.now c.in-Err.fault c.unread.result c.in-Err.ensures.refused c.in-Err.ensures.only
+    c.unread.ensures

@@ -6,4 +6,5 @@ pub returns-in-Ok-clause-answers : goal.returns-in-Ok-clause-answers
 returns-in-Ok-clause-answers c = admitted_answers c.args.module.now c.text_where_small.result c.in-Ok.ensures.answers c.text_where_small.ensures.answers
 
 pub returns-in-Err-clause-answers : goal.returns-in-Err-clause-answers
-returns-in-Err-clause-answers c = unadmitted_answers Global c.args.module.now c.in-Err.fault c.unadmitted.result (c.in-Err.ensures {u = tt}).answers c.unadmitted.ensures
+returns-in-Err-clause-answers c = unadmitted_answers Global c.args.module.now c.in-Err.fault c.unadmitted.result (c.in-Err.ensures {u = tt}).answers
+    c.unadmitted.ensures
