@@ -18,7 +18,7 @@ use Rattle.reader_laws.specs.declared.fault.ReadError.TheVariants.{Refused}
 use Rattle.reader_laws.specs.Steps.{Parser, ◌>>=◌, ◌>>◌, pure, refusal, take_word, kind, no_value}
 use Rattle.reader_laws.specs.Chain.{joined, repeated}
 use Rattle.reader_laws.specs.Levels.{unread, misplaced_in}
-use Rattle.reader_laws.specs.Grammar.{IsWordOf, IsNothing, OneOf, Both, IsRepeated}
+use Rattle.reader_laws.specs.Grammar.{IsWordOf, IsNothing, OneOf, Both}
 use Rattle.reader_laws.proofs.Outcomes.{taken}
 use Rattle.source_grammar.specs.Limits.{tested}
 use Rattle.source_grammar.specs.Index.{Sum, join, IsIndex}
@@ -34,7 +34,7 @@ use Rattle.first_fault.proofs.Begins.{Cut, Begins}
 use Rattle.first_fault.proofs.BeginLaws.{which, Later, cut_after, cut_here, both_go, begins_both, closing}
 use Rattle.first_fault.proofs.FormAlgebra.{minus_zero_is, minus-itself, less-than-one, more-than-minus-one}
 use Rattle.first_fault.proofs.IndexBegins.{signed_word, begins_index, zero_index, normal_index, begins_index_to, index_to}
-use Rattle.first_fault.proofs.PartBegins.{some_both, some_nothing, begins_then, any_made, begins_repeated, some_repeated}
+use Rattle.first_fault.proofs.Parts.{Part, part_both, part_made, part_repeated}
 
 -- ---- the word of a relation
 
@@ -198,34 +198,21 @@ module _ (names : Text → Result Items Fault) (named : (t : Text) (x : Items) �
     has = tt;
   }
 
-  pub begins_comparison : Begins (comparison names levels) (IsComparison names levels) Any
+  part_comparison : Part (comparison names levels) (IsComparison names levels)
   unfolding comparison
-  begins_comparison = begins_both right (against names levels) IsRight Against (λ x. x ≡ zero_form) Any (lawful_index names levels Sum).sound
-      (begins_index names named levels Sum) (λ ws x is. begins_against x (normal_index names named levels Sum ws x is))
-      (λ ws x is z. equal_to_itself ws x is) (λ ws x is few. equal_to_itself ws x is)
+  part_comparison = record {
+    sound = (lawful_comparison names levels).sound;
+    begins = begins_both right (against names levels) IsRight Against (λ x. x ≡ zero_form) Any (lawful_index names levels Sum).sound
+        (begins_index names named levels Sum) (λ ws x is. begins_against x (normal_index names named levels Sum ws x is))
+        (λ ws x is z. equal_to_itself ws x is) (λ ws x is few. equal_to_itself ws x is);
+    some = let c = zero_index names named levels Sum in both_go IsRight Against Any [] c.rest c.value c.is (equal_to_itself c.rest c.value c.is);
+  }
 
-  pub some_comparison : Continues (IsComparison names levels) Any []
-  some_comparison = let c = zero_index names named levels Sum in
-      both_go IsRight Against Any [] c.rest c.value c.is (equal_to_itself c.rest c.value c.is)
-
-  pub begins_condition : Begins (condition names levels) (IsCondition names levels) Any
+  pub part_condition : Part (condition names levels) (IsCondition names levels)
   unfolding condition
-  begins_condition =
-      let made : List Cmp → Cond = all_of in
+  part_condition =
       let more : Cmp → Parser (List Cmp) = λ c. repeated k.And with_last (λ _. comparison names levels) most_comparisons (c ∷ []) in
-      begins_then (comparison names levels) (λ c. more c >>= λ cs. pure (made cs)) (IsComparison names levels) _
-      (lawful_comparison names levels).sound begins_comparison
-      (λ c. any_made (more c) made _ (begins_repeated k.And with_last (λ _. comparison names levels) (λ _. IsComparison names levels)
-      (λ (z : k.And ≡ k.End). cc)
-      (λ _. (lawful_comparison names levels).sound) (λ _. begins_comparison) (λ _. some_comparison) most_comparisons (c ∷ [])))
-      (λ c. some_after c)
-    where
-      some_after : (c : Cmp)
-          → Continues (Both (IsRepeated k.And with_last (λ _. IsComparison names levels) most_comparisons (c ∷ [])) (λ cs. IsNothing (all_of cs))) Any []
-      some_after c = some_both (IsRepeated k.And with_last (λ _. IsComparison names levels) most_comparisons (c ∷ [])) (λ cs. IsNothing (all_of cs))
-          (some_repeated k.And with_last (λ _. IsComparison names levels) most_comparisons (c ∷ [])) (λ cs. some_nothing (all_of cs))
-
-  pub some_condition : Continues (IsCondition names levels) Any []
-  some_condition = some_both (IsComparison names levels) _ some_comparison (λ c.
-      some_both (IsRepeated k.And with_last (λ _. IsComparison names levels) most_comparisons (c ∷ [])) (λ cs. IsNothing (all_of cs))
-      (some_repeated k.And with_last (λ _. IsComparison names levels) most_comparisons (c ∷ [])) (λ cs. some_nothing (all_of cs)))
+      part_both (comparison names levels) (λ c. more c >>= λ cs. pure (all_of cs)) (IsComparison names levels) _ part_comparison
+      (λ c. part_made (more c) all_of _
+      (part_repeated k.And with_last (λ _. comparison names levels) (λ _. IsComparison names levels) (λ (z : k.And ≡ k.End). cc) (λ _. part_comparison)
+      most_comparisons (c ∷ [])))

@@ -2,6 +2,9 @@ mod Begins
 mod BeginLaws
 mod FormAlgebra
 mod IndexBegins
-mod PartBegins
+mod Wider
+mod Parts
 mod ConditionBegins
+mod Named
+mod TermBegins
 mod WholeBegins

@@ -1,87 +1,31 @@
 -- First means first, of whole texts: the words before a fault's word are the beginning of something that the rule allows.
-use Rattle.std.proofs.Common.{◌≡◌, ◌⊎◌, inl, inr, ◌&&◌, ◌+◌, ℕ, nat_le, Bool, true, false, cond, List, [], length, Option, Some, None, Result, Ok, Err, refl}
+use Rattle.std.proofs.Common.{◌≡◌, ◌⊎◌, inl, inr, ℕ, suc, Bool, true, false, cond, List, [], length, Ok, Err}
 use Rattle.std.proofs.Common.{sym, ap, subst, ◌∙◌, append-nil}
-use Rattle.std.proofs.lemmas.Bool.{and_from}
 use Rattle.text_tokens.specs.declared.kind.Language.{Language}
 use Rattle.text_tokens.specs.declared.kind.Kind.TheVariants as k
 use Rattle.text_tokens.specs.Kinds.{Text, same_kind}
 use Rattle.text_tokens.specs.Words.{Word, Input, input, peek, next_word, is_nil}
-use Rattle.affine_index.specs.Count.{items_count, atom_count}
-use Rattle.affine_index.specs.Form.{size_form, var_form, of_atom}
-use Rattle.affine_index.specs.Normal.{atom_good, atom_is_ordered, items_good, layer_good, is_ordered, coefficients_fit, is_short}
-use Rattle.affine_index.specs.declared.form.Atom.{Atom}
-use Rattle.affine_index.specs.declared.form.Atom.TheVariants.{Size, Var}
-use Rattle.affine_index.specs.declared.form.Items.{Items}
-use Rattle.affine_index.proofs.CountLaws.{count-items, count-Size, count-Var}
-use Rattle.affine_index.proofs.EveryLaws.{every-Size, every-Var}
-use Rattle.affine_index.proofs.OrderedLaws.{atom-ordered}
-use Rattle.affine_index.proofs.ReadyLaws.{out-Size, out-Var}
 use Rattle.reader_laws.specs.declared.fault.Fault.{Fault}
 use Rattle.reader_laws.specs.declared.fault.Fault.TheVariants.{BadToken, BadSyntax}
 use Rattle.reader_laws.specs.declared.fault.ReadError.{ReadError}
 use Rattle.reader_laws.specs.declared.fault.ReadError.TheVariants.{Refused}
 use Rattle.reader_laws.specs.Steps.{Outcome, Parser, and_then, ◌>>◌, pure, misplaced, refusal, kind, finish, value_of, to_end, read_whole}
 use Rattle.reader_laws.proofs.Lawful.{Found}
-use Rattle.source_grammar.specs.declared.sort.Sort.{Sort}
-use Rattle.source_grammar.specs.declared.sort.Sort.TheVariants.{OfSize, OfIndex, OfTensor}
-use Rattle.source_grammar.specs.declared.sort.Meaning.{Meaning}
-use Rattle.source_grammar.specs.Scope.{Scope, meaning, if_known, index_form, size_form_of, index_name, extent_name}
+use Rattle.source_grammar.specs.Scope.{Scope, index_name, extent_name}
 use Rattle.source_grammar.specs.Index.{Level, IsIndex}
 use Rattle.source_grammar.specs.ReadIndex.{index}
 use Rattle.source_grammar.specs.Conditions.{IsCondition}
 use Rattle.source_grammar.specs.ReadConditions.{condition}
-use Rattle.source_grammar.proofs.ConditionLaws.{lawful_condition}
-use Rattle.first_fault.proofs.ConditionBegins.{begins_condition, some_condition}
+use Rattle.first_fault.proofs.ConditionBegins.{part_condition}
+use Rattle.source_grammar.specs.Terms.{Place, IsTerm}
+use Rattle.source_grammar.specs.ReadTerms.{term}
+use Rattle.first_fault.proofs.TermBegins.{part_term}
 use Rattle.first_fault.specs.First.{Few, Continues, Any, IsFirst, FaultsAreFirst}
 use Rattle.first_fault.proofs.Begins.{Cut, Begins}
 use Rattle.first_fault.proofs.BeginLaws.{which, Later, cut_as, cut_after, cut_here}
 use Rattle.source_grammar.proofs.IndexLaws.{lawful_index}
+use Rattle.first_fault.proofs.Named.{index_named, extent_named}
 use Rattle.first_fault.proofs.IndexBegins.{Zero, begins_index, zero_index}
-use Rattle.source_grammar.proofs.NormalForms.{Normal}
-
--- ---- the forms of names
-
-atom_normal : (a : Atom) → atom_is_ordered a ≡ true → atom_count a ≡ 1 → Normal (of_atom a)
-atom_normal a good one =
-    let count : items_count (of_atom a) ≡ 1 = count-items (of_atom a) ∙ ap (λ n. n + 0) one in
-    and_from (is_ordered (of_atom a)) (coefficients_fit (of_atom a) && is_short (of_atom a)) (atom-ordered a good)
-    (and_from (coefficients_fit (of_atom a)) (is_short (of_atom a)) refl (ap (λ n. nat_le n 128) count))
-
-size_normal : (n : ℕ) → Normal (size_form n)
-size_normal n = atom_normal (Size n) (every-Size atom_good items_good n ∙ ap layer_good (out-Size n)) (count-Size n)
-
-var_normal : (n : ℕ) → Normal (var_form n)
-var_normal n = atom_normal (Var n) (every-Var atom_good items_good n ∙ ap layer_good (out-Var n)) (count-Var n)
-
-abbrev ok : Items → Result Items Fault
-ok i = Ok i
-
-same_form : (a b : Items) → ok a ≡ ok b → a ≡ b
-same_form a b h = cc
-
-form_normal : (s : Sort) (n : ℕ) (x : Items) → index_form s n ≡ Ok x → Normal x
-form_normal OfSize n x h = subst Normal (same_form (size_form n) x h) (size_normal n)
-form_normal OfIndex n x h = subst Normal (same_form (var_form n) x h) (var_normal n)
-form_normal OfTensor n x h = absurd cc
-
-extent_normal : (s : Sort) (n : ℕ) (x : Items) → size_form_of s n ≡ Ok x → Normal x
-extent_normal OfSize n x h = subst Normal (same_form (size_form n) x h) (size_normal n)
-extent_normal OfIndex n x h = absurd cc
-extent_normal OfTensor n x h = absurd cc
-
-pub index_named : (scope : Scope) (t : Text) (x : Items) → index_name scope t ≡ Ok x → Normal x
-index_named scope t x h = go (meaning scope t) h
-  where
-    go : (m : Option Meaning) → if_known index_form m ≡ Ok x → Normal x
-    go None h = absurd cc
-    go (Some m) h = form_normal m.sort m.number x h
-
-pub extent_named : (scope : Scope) (t : Text) (x : Items) → extent_name scope t ≡ Ok x → Normal x
-extent_named scope t x h = go (meaning scope t) h
-  where
-    go : (m : Option Meaning) → if_known size_form_of m ≡ Ok x → Normal x
-    go None h = absurd cc
-    go (Some m) h = extent_normal m.sort m.number x h
 
 -- an index in a scope, and an extent or amount
 pub begins_in_scope : (scope : Scope) (levels : ℕ) (level : Level)
@@ -160,12 +104,21 @@ pub first_of_condition : (language : Language) (scope : Scope) (levels : ℕ)
     → FaultsAreFirst language (condition (index_name scope) levels) (IsCondition (index_name scope) levels)
 first_of_condition language scope levels z fault place h =
     faults_are_first language (condition (index_name scope) levels) (IsCondition (index_name scope) levels) Any
-    (lawful_condition (index_name scope) levels).sound (begins_condition (index_name scope) (index_named scope) levels)
-    (some_condition (index_name scope) (index_named scope) levels) z fault place h
+    (part_condition (index_name scope) (index_named scope) levels).sound
+    (part_condition (index_name scope) (index_named scope) levels).begins
+    (part_condition (index_name scope) (index_named scope) levels).some z fault place h
 
 pub first_of_assume : (language : Language) (scope : Scope) (levels : ℕ)
     → FaultsAreFirst language (condition (extent_name scope) levels) (IsCondition (extent_name scope) levels)
 first_of_assume language scope levels z fault place h =
     faults_are_first language (condition (extent_name scope) levels) (IsCondition (extent_name scope) levels) Any
-    (lawful_condition (extent_name scope) levels).sound (begins_condition (extent_name scope) (extent_named scope) levels)
-    (some_condition (extent_name scope) (extent_named scope) levels) z fault place h
+    (part_condition (extent_name scope) (extent_named scope) levels).sound
+    (part_condition (extent_name scope) (extent_named scope) levels).begins
+    (part_condition (extent_name scope) (extent_named scope) levels).some z fault place h
+
+-- texts that are one term
+pub first_of_term : (language : Language) (levels : ℕ) (place : Place) (scope : Scope)
+    → FaultsAreFirst language (term levels place scope) (IsTerm (suc levels) place scope)
+first_of_term language levels place scope z fault at h =
+    let l = part_term levels place scope in
+    faults_are_first language (term levels place scope) (IsTerm (suc levels) place scope) Any l.sound l.begins l.some z fault at h

@@ -1,5 +1,5 @@
 -- First means first: the words before the word at which a fault stands are the beginning of something that the rule allows.
-use Rattle.std.specs.Prelude.{◌≡◌, ◌+◌, ◌<◌, ◌*◌, ◌^◌, ℕ, List, ◌++◌, length, Err}
+use Rattle.std.specs.Prelude.{◌≡◌, ◌+◌, ◌<◌, ◌*◌, ◌^◌, ℕ, suc, List, ◌++◌, length, Err}
 use Rattle.text_tokens.specs.declared.kind.Language.{Language}
 use Rattle.text_tokens.specs.Kinds.{Text}
 use Rattle.text_tokens.specs.Words.{Word, words_of, next_word}
@@ -11,6 +11,8 @@ use Rattle.source_grammar.specs.Index.{Level, IsIndex}
 use Rattle.source_grammar.specs.ReadIndex.{index}
 use Rattle.source_grammar.specs.Conditions.{IsCondition}
 use Rattle.source_grammar.specs.ReadConditions.{condition}
+use Rattle.source_grammar.specs.Terms.{Place, IsTerm}
+use Rattle.source_grammar.specs.ReadTerms.{term}
 
 -- not more words than a file has
 abbrev pub Few : List Word → Type 0
@@ -57,3 +59,9 @@ ConditionFaultsAreFirst = (language : Language) (scope : Scope) (levels : ℕ)
 abbrev pub AssumeFaultsAreFirst : Type 0
 AssumeFaultsAreFirst = (language : Language) (scope : Scope) (levels : ℕ)
     → FaultsAreFirst language (condition (extent_name scope) levels) (IsCondition (extent_name scope) levels)
+
+-- Of a term at each place, with one level more: at a word that opens a level where none is left, as the parenthesis of `flatten(`, no text with as many
+-- levels goes on.
+abbrev pub TermFaultsAreFirst : Type 0
+TermFaultsAreFirst = (language : Language) (levels : ℕ) (place : Place) (scope : Scope)
+    → FaultsAreFirst language (term levels place scope) (IsTerm (suc levels) place scope)

@@ -1,7 +1,7 @@
 //! Laws of faults, each the contract of a function that does nothing.
 
 ghost use Rattle.first_fault.specs.First.{AssumeFaultsAreFirst, ConditionFaultsAreFirst};
-ghost use Rattle.first_fault.specs.First.{ExtentFaultsAreFirst, IndexFaultsAreFirst};
+ghost use Rattle.first_fault.specs.First.{ExtentFaultsAreFirst, IndexFaultsAreFirst, TermFaultsAreFirst};
 
 /// The words before the word of an index's fault are the beginning of an index.
 pub fn index_faults_are_first()
@@ -21,4 +21,9 @@ pub fn condition_faults_are_first()
 /// The words before the word of an assume's fault are the beginning of a condition over sizes.
 pub fn assume_faults_are_first()
     ensures { AssumeFaultsAreFirst }
+{}
+
+/// The words before the word of a term's fault are the beginning of a term with one level more.
+pub fn term_faults_are_first()
+    ensures { TermFaultsAreFirst }
 {}
