@@ -9,4 +9,4 @@ mod ArgumentLaws
 mod StepLaws
 mod ScriptLaws
 mod Bytes
-mod WholeLaws
+pub mod WholeLaws

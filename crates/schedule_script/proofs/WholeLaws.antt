@@ -79,7 +79,7 @@ source_found z m h = go (is_utf8 z) refl
     go true e = (IsUtf8-from_is_utf8 z e, text_found z m (sym (by_cases z true e) ∙ h))
     go false e = absurd (no_script z m h e)
 
-source_only : (z : Text) (m : Script) → ScriptText z m → read_bytes z ≡ Ok m
+pub source_only : (z : Text) (m : Script) → ScriptText z m → read_bytes z ≡ Ok m
 source_only z m is = by_cases z true (is_utf8-from_IsUtf8 z is.0) ∙ text_only z m is.1
 
 cause_leaves : (z : Text) (e : ScriptFault) → IsUtf8 z → IsCause z e → IsRefusedText z e

@@ -1,3 +1,7 @@
 mod Folds
 mod Places
 mod Sizes
+pub mod IndexSays
+pub mod ScriptSays
+pub mod Cuts
+pub mod CanonicalText
