@@ -7,4 +7,5 @@ mod Parts
 mod ConditionBegins
 mod Named
 mod TermBegins
-mod WholeBegins
+mod SourceBegins
+pub mod WholeBegins

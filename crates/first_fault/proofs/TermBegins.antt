@@ -66,7 +66,7 @@ sum_no_end _ o h is = cc
 
 -- ---- an index, extent or condition within a term
 
-part_index : (names : Text → Result Items Fault) (named : (t : Text) (x : Items) → names t ≡ Ok x → Normal x) (n m : ℕ) → n ≤ m
+pub part_index : (names : Text → Result Items Fault) (named : (t : Text) (x : Items) → names t ≡ Ok x → Normal x) (n m : ℕ) → n ≤ m
     → Part (index names n index_sum) (IsIndex names m index_sum)
 part_index names named n m more = part_of (index names n index_sum) (IsIndex names n index_sum) (IsIndex names m index_sum) Zero
     (lawful_index names n index_sum).sound (begins_index names named n index_sum) (zero_index names named n index_sum) (wider_index names n m more index_sum)

@@ -20,6 +20,10 @@ use Rattle.first_fault.proofs.ConditionBegins.{part_condition}
 use Rattle.source_grammar.specs.Terms.{Place, IsTerm}
 use Rattle.source_grammar.specs.ReadTerms.{term}
 use Rattle.first_fault.proofs.TermBegins.{part_term}
+use Rattle.source_grammar.specs.Source.{language}
+use Rattle.source_grammar.specs.ReadSource.{source}
+use Rattle.first_fault.specs.Sources.{IsSourceOf}
+use Rattle.first_fault.proofs.SourceBegins.{part_source}
 use Rattle.first_fault.specs.First.{Few, Continues, Any, IsFirst, FaultsAreFirst}
 use Rattle.first_fault.proofs.Begins.{Cut, Begins}
 use Rattle.first_fault.proofs.BeginLaws.{which, Later, cut_as, cut_after, cut_here}
@@ -122,3 +126,9 @@ pub first_of_term : (language : Language) (levels : ℕ) (place : Place) (scope 
 first_of_term language levels place scope z fault at h =
     let l = part_term levels place scope in
     faults_are_first language (term levels place scope) (IsTerm (suc levels) place scope) Any l.sound l.begins l.some z fault at h
+
+-- texts that are one source
+pub first_of_source : (version : ℕ) → FaultsAreFirst (language version) (source version) (IsSourceOf 1001 version)
+first_of_source version z fault place h =
+    let l = part_source version in
+    faults_are_first (language version) (source version) (IsSourceOf 1001 version) Any l.sound l.begins l.some z fault place h

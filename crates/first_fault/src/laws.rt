@@ -2,6 +2,7 @@
 
 ghost use Rattle.first_fault.specs.First.{AssumeFaultsAreFirst, ConditionFaultsAreFirst};
 ghost use Rattle.first_fault.specs.First.{ExtentFaultsAreFirst, IndexFaultsAreFirst, TermFaultsAreFirst};
+ghost use Rattle.first_fault.specs.Sources.{SourceFaultsAreFirst, ThousandLevelsAreTheSources};
 
 /// The words before the word of an index's fault are the beginning of an index.
 pub fn index_faults_are_first()
@@ -26,4 +27,14 @@ pub fn assume_faults_are_first()
 /// The words before the word of a term's fault are the beginning of a term with one level more.
 pub fn term_faults_are_first()
     ensures { TermFaultsAreFirst }
+{}
+
+/// The words before the word of a source's fault are the beginning of a source whose terms may have one level more.
+pub fn source_faults_are_first()
+    ensures { SourceFaultsAreFirst }
+{}
+
+/// With 1,000 levels, sources of so many levels are the sources.
+pub fn thousand_levels_are_the_sources()
+    ensures { ThousandLevelsAreTheSources }
 {}
