@@ -1,4 +1,8 @@
 //! The goals of a module in final form, in order.
-#![tactic(auto, using(crate::proofs::ClaimLaws::claim_laws))]
+#![tactic(auto, using(crate::proofs::ClaimLaws::claim_laws, crate::proofs::LeafLaws::leaf_laws))]
 
+pub mod drops;
+pub mod leaf;
+pub mod loose;
 pub mod reads;
+pub mod walk;
