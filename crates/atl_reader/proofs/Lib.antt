@@ -3,3 +3,4 @@ pub mod Versions
 pub mod FewLaws
 pub mod Bytes
 pub mod Causes
+pub mod FirstLaws

@@ -19,6 +19,8 @@ use Rattle.reader_laws.specs.Steps.{kind, read_whole, text}
 use Rattle.reader_laws.specs.Grammar.{IsRefusedAt}
 use Rattle.source_grammar.specs.ReadSource.{source}
 use Rattle.source_grammar.specs.Source.{IsSource, language, nodes}
+use Rattle.first_fault.specs.First.{IsFirst}
+use Rattle.first_fault.specs.Sources.{IsSourceOf}
 use Rattle.atl_reader.specs.declared.fault.ReadFault.{ReadFault}
 use Rattle.atl_reader.specs.declared.fault.ReadFault.TheVariants.{NotUtf8, BadToken, BadSyntax, TooDeep, UnknownName, NameTwice, ReservedName}
 use Rattle.atl_reader.specs.declared.fault.ReadFault.TheVariants.{NumberTooLarge, NotAffine, CoefficientTooLarge, IndexTooLong, TooManyNodes, Memory}
@@ -130,6 +132,24 @@ IsCause z (CoefficientTooLarge at) = IsUtf8 z × IsFaulty z f.CoefficientTooLarg
 IsCause z (IndexTooLong at) = IsUtf8 z × IsFaulty z f.IndexTooLong at
 IsCause z (TooManyNodes count) = IsUtf8 z × IsLarge z count
 IsCause z Memory = Unit {0}
+
+-- the words before this place are the beginning of a source of the version that the text names, whose terms may have one level more than are read
+abbrev pub BeginsASource : Text → ℕ → Type 0
+BeginsASource z at = IsFirst (language (version_of z)) (IsSourceOf 1001 (version_of z)) z at
+
+-- a fault of a word or an operator is the first one
+abbrev pub IsFirstFault : Text → ReadFault → Type 0
+IsFirstFault z (BadToken at) = BeginsASource z at
+IsFirstFault z (BadSyntax at) = BeginsASource z at
+IsFirstFault z (TooDeep at) = BeginsASource z at ⊎ IsDeep z at
+IsFirstFault z (UnknownName at) = BeginsASource z at
+IsFirstFault z (NameTwice at) = BeginsASource z at
+IsFirstFault z (ReservedName at) = BeginsASource z at
+IsFirstFault z (NumberTooLarge at) = BeginsASource z at
+IsFirstFault z (NotAffine at) = BeginsASource z at
+IsFirstFault z (CoefficientTooLarge at) = BeginsASource z at
+IsFirstFault z (IndexTooLong at) = BeginsASource z at
+IsFirstFault z _ = Unit {0}
 
 -- how much is declared
 abbrev pub declarations : Module → ℕ

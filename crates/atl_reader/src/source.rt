@@ -8,7 +8,7 @@ ghost use Rattle.reader_laws.specs.Steps.{Gives};
 ghost use Rattle.source_grammar.specs.ReadSource as grammar;
 ghost use Rattle.source_grammar.specs.Source.{SourceText, language};
 ghost use Rattle.atl_reader.specs.Source as spec;
-ghost use Rattle.atl_reader.specs.Source.{Answers, IsCause, declarations};
+ghost use Rattle.atl_reader.specs.Source.{Answers, IsCause, IsFirstFault, declarations};
 
 use crate::fault::{ReadFault, fault_of};
 use crate::limits::{all_nodes, deep, place_of_term};
@@ -110,6 +110,8 @@ pub fn read_module(alloc: Global, text: &[u8]) -> Result<Module, ReadFault>
     ensures only { (m : Value) → SourceText text.now m → Answers result (Ok m) }
     // A refusal has its cause, at the first place that decides it.
     ensures refused { IfErr result (λ fault. IsCause text.now fault) }
+    // A fault of a word or an operator is the first: the words before it are the beginning of a source.
+    ensures first { IfErr result (λ fault. IsFirstFault text.now fault) }
     // Which answer it is.
     ensures exact { Answers result (spec.read_source text.now) }
     ensures scoped { IfOk result (λ m. module_scoped m ≡ true) }
