@@ -54,11 +54,6 @@ NonZero t = int_eq t.coefficient (pos 0) ≡ false
 drop-both : (t : Item Atom) (rest : List (Item Atom)) → combined t (opposite t) rest ≡ rest
 drop-both t rest = ap (λ z. item_if z (added t (opposite t)) rest) (gone t.coefficient)
 
-same_atom : (x : Atom) (t u : Item Atom) (rest ts : List (Item Atom)) → (f : List (Item Atom) → List (Item Atom)) (later : List (Item Atom))
-    → atom_order t.atom u.atom ≡ Equal
-    → onto_by (atom_order t.atom u.atom) t f u ts later ≡ combined t u (f ts)
-same_atom x t u rest ts f later e = ap (λ o. onto_by o t f u ts later) e
-
 cancel-all : (ts : List (Item Atom)) → merged ts (minus ts) ≡ []
 cancel-all [] = refl
 cancel-all (t ∷ ts) =

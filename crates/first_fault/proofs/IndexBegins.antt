@@ -682,9 +682,6 @@ module _ (names : Text → Result Items Fault) (named : (t : Text) (x : Items) �
   pub zero_index : (levels : ℕ) (level : Level) → Continues (IsIndex names levels level) Zero []
   zero_index levels level = (good levels).zero level
 
-  pub extends_index : (levels : ℕ) (ws : List Word) (x : Items) → IsIndex names levels Sum ws x → Few ws → Continues (IsIndex names levels Sum) Zero ws
-  extends_index levels ws x is few = (good levels).extends ws x is few
-
   pub normal_index : (levels : ℕ) (level : Level) (ws : List Word) (x : Items) → IsIndex names levels level ws x → Normal x
   normal_index levels level ws x is = (good levels).normal level ws x is
 

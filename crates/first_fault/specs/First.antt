@@ -18,7 +18,7 @@ use Rattle.source_grammar.specs.ReadTerms.{term}
 abbrev pub Few : List Word → Type 0
 Few ws = 2 * length ws + 4 < 2 ^ 63
 
--- words that go on after these: both together are in the rule, with a value of this sort
+-- words that go on after these: both together are in the rule, with a value of this sort; a rule looks at kinds and texts, not at places
 pub record Continues {A : Type 0} (rule : List Word → A → Type 0) (T : A → Type 0) (front : List Word) : Type 0 where
   pub rest : List Word
   pub value : A
