@@ -13,6 +13,10 @@ pub mod TermSolid
 pub mod OneModule
 pub mod CanonicalText
 pub mod Printing
+pub mod ReadWords
+pub mod ReadForms
+pub mod ReadTerms
+pub mod ReadModules
 pub mod Rows
 pub mod Pages
 pub mod IndexPages

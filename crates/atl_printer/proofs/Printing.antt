@@ -21,7 +21,7 @@ at_most : (q n : ℕ) → nat_le q n ≡ true → q ≤ n
 at_most q n h = grind arith
 
 module _ (sizes : ℕ) where
-  good_forms : (vars : ℕ) (cs : List Cmp) → all_scoped sizes vars cs ≡ true → each_cmp is_normal cs ≡ true → AreGoodForms sizes vars cs
+  pub good_forms : (vars : ℕ) (cs : List Cmp) → all_scoped sizes vars cs ≡ true → each_cmp is_normal cs ≡ true → AreGoodForms sizes vars cs
   good_forms vars [] s n = tt
   good_forms vars (c ∷ cs) s n =
       let ss = and_parts (items_scoped sizes vars (cmp_form c)) (all_scoped sizes vars cs) s in

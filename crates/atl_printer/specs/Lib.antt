@@ -5,6 +5,7 @@ pub mod ReadTree
 pub mod Held
 pub mod Printable
 pub mod PrintableModule
+pub mod ReadPrintable
 pub mod Page
 pub mod IndexPages
 pub mod FormPages

@@ -4,6 +4,7 @@
 mod declaration;
 mod form;
 mod index;
+pub mod laws;
 mod pen;
 mod term;
 
