@@ -4,5 +4,8 @@
 pub mod drops;
 pub mod leaf;
 pub mod loose;
+pub mod outputs;
 pub mod reads;
 pub mod walk;
+
+pub use outputs::goals;
