@@ -15,7 +15,7 @@ use Rattle.small_form.specs.Tested.{is_small}
 use Rattle.source_grammar.specs.Source.{SourceText}
 use Rattle.atl_reader.specs.declared.fault.ReadFault.{ReadFault}
 use Rattle.atl_reader.specs.declared.fault.ReadFault.TheVariants as read
-use Rattle.atl_reader.specs.Source.{IsCause, read_source}
+use Rattle.atl_reader.specs.Source.{IsCause, IsFirstFault, read_source}
 use Rattle.atl_reader.specs.Source.{Answers as Reads}
 use Rattle.lowering.specs.Correct.{HasLengths, IsCorrect}
 use Rattle.lowering.specs.Lowered.{loops_of}
@@ -133,10 +133,17 @@ told_is fault (Refused f) told tells is = let same : f ≡ told = cc in (sym sam
 told_is fault Memory told tells is = absurd (cc)
 
 -- a fault that is told of a source that is not read
-pub refused_unread : (A : Type 0) (z : List ℕ) (fault : ReadFault) (refusal : CompileRefusal) → IsCause z fault
+pub refused_unread : (A : Type 0) (z : List ℕ) (fault : ReadFault) (refusal : CompileRefusal) → IsCause z fault → IsFirstFault z fault
     → ((m : Module) → SourceText z m → Reads (Err fault) (Ok m)) → Tells fault refusal → (told : Fault) → IsErrOf {T = Vec ℕ A} (Err refusal) (Refused told)
     → IsRefusedSource z told
-refused_unread A z fault refusal is_cause only tells told is =
+refused_unread A z fault refusal is_cause first only tells told is =
     let same : refusal ≡ Refused told = cc in
     let cause = told_is fault refusal told tells same in
-    inl (record { cause = fault; told = cause.0; is_cause = is_cause; fails = cause.1; none = λ m reads. not_ok {P = ⊥} fault m (only m reads) cause.1 })
+    inl (record {
+      cause = fault;
+      told = cause.0;
+      is_cause = is_cause;
+      first = first;
+      fails = cause.1;
+      none = λ m reads. not_ok {P = ⊥} fault m (only m reads) cause.1;
+    })

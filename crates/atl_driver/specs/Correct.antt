@@ -8,7 +8,7 @@ use Rattle.admission.specs.Admission.{Accepted, admission_fault}
 use Rattle.admission.specs.declared.fault.AdmissionFault.{AdmissionFault}
 use Rattle.small_form.specs.Tested.{is_small}
 use Rattle.source_grammar.specs.Source.{SourceText}
-use Rattle.atl_reader.specs.Source.{IsCause}
+use Rattle.atl_reader.specs.Source.{IsCause, IsFirstFault}
 use Rattle.atl_reader.specs.declared.fault.ReadFault.{ReadFault}
 use Rattle.atl_reader.specs.declared.fault.ReadFault.TheVariants.{Memory}
 use Rattle.lowering.specs.Correct.{HasLengths, IsCorrect}
@@ -49,11 +49,12 @@ pub record IsCompiled (source text : List ℕ) : Type 0 where
   pub admitted : IsAdmitted origin
   pub loops : AreLoops origin text
 
--- the source is the text of no module, with the first cause
+-- the source is the text of no module, and this is the cause, the first one in the text
 pub record IsUnread (source : List ℕ) (fault : Fault) : Type 0 where
   pub cause : ReadFault
   pub told : fault ≡ fault_of cause
   pub is_cause : IsCause source cause
+  pub first : IsFirstFault source cause
   pub fails : cause ≢ Memory
   pub none : (m : Module) → SourceText source m → ⊥
 

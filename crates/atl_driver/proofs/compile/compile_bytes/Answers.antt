@@ -37,5 +37,5 @@ pub returns-in-Err-clause-answers : goal.returns-in-Err-clause-answers
 returns-in-Err-clause-answers c = answers_unread Global c.args.source.now c.in-Err.fault c.unread.result c.in-Err.ensures.exact c.unread.ensures
 
 pub returns-in-Err-clause-refused : goal.returns-in-Err-clause-refused
-returns-in-Err-clause-refused c = refused_unread Global c.args.source.now c.in-Err.fault c.unread.result c.in-Err.ensures.refused c.in-Err.ensures.only
-    c.unread.ensures
+returns-in-Err-clause-refused c = refused_unread Global c.args.source.now c.in-Err.fault c.unread.result c.in-Err.ensures.refused c.in-Err.ensures.first
+    c.in-Err.ensures.only c.unread.ensures
