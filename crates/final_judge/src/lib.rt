@@ -4,6 +4,7 @@
 pub mod drops;
 pub mod leaf;
 pub mod loose;
+pub mod met;
 pub mod outputs;
 pub mod reads;
 pub mod walk;
