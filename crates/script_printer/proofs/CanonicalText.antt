@@ -36,7 +36,7 @@ use Rattle.script_printer.specs.Index.{is_looser, index_text}
 use Rattle.script_printer.specs.Script.{relation_text, comparison_text, and_comparison, argument_text, further_argument, arguments_text}
 use Rattle.script_printer.specs.Script.{line_text, further_line, lines_text, certificate_text, position_text, path_text, step_text, final_text, script_text}
 use Rattle.script_printer.specs.Script.{parallel_text}
-use Rattle.script_printer.specs.Printable.{AreGood, Each, IsCount, IsGoodArgument, IsGoodCertificate, IsGoodComparison, IsGoodFinal, IsGoodLine}
+use Rattle.script_printer.specs.Printable.{AreSeparated, Each, IsCount, IsGoodArgument, IsGoodCertificate, IsGoodComparison, IsGoodFinal, IsGoodLine}
 use Rattle.script_printer.specs.Printable.{IsGoodPath, IsGoodStep, IsGoodTree, IsPrintable, ReadsBack}
 use Rattle.script_printer.proofs.IndexSays.{enclosed, index_tokens}
 use Rattle.script_printer.proofs.ScriptSays.{argument_tokens, arguments_tokens, certificate_tokens, comparison_tokens, count_tokens}
@@ -469,17 +469,17 @@ argument-cut : (a : ArgTree) → IsGoodArgument a → Cut false (argument_text a
 argument-cut (Ix a) g = index-cut a Sum g.0
 argument-cut (Cond []) g = absurd (omega (arith, g.0))
 argument-cut (Cond (c ∷ cs)) g =
-    cut_tail (comparison-cut c g.1.1.0) (each_tail IsGoodComparison the_and and_comparison comparison_tokens further-comparison cs g.1.1.1)
+    cut_tail (comparison-cut c g.1.0) (each_tail IsGoodComparison the_and and_comparison comparison_tokens further-comparison cs g.1.1.1)
 
 further-argument : (a : ArgTree) → IsGoodArgument a → Tail false (further_argument a) (sign k.Comma ∷ argument_tokens a)
 further-argument a g = sure_tail comma_sign (argument-cut a g)
 
-arguments-tail : (xs : List ArgTree) → AreGood IsGoodArgument xs → Tail false (arguments_text xs) (arguments_tokens xs)
+arguments-tail : (xs : List ArgTree) → AreSeparated IsGoodArgument xs → Tail false (arguments_text xs) (arguments_tokens xs)
 arguments-tail [] g = tail_nil
 arguments-tail (x ∷ xs) g =
     let more = flat_map further_argument xs in
     weaker_tail (regroup_tail (codes "(" ++ argument_text x) more (codes ")") (regroup_tail (codes "(") (argument_text x) (more ++ codes ")")
-    (sure_tail open_sign (cut_tail (argument-cut x g.1.0)
+    (sure_tail open_sign (cut_tail (argument-cut x g.0)
     (tail_tail (each_tail IsGoodArgument (sign k.Comma) further_argument argument_tokens further-argument xs g.1.1) close_sign)))))
 
 -- ---- certificates
@@ -505,7 +505,7 @@ certificate-tail (Given (l ∷ ls)) g =
     let more = each_after (sign k.Comma) line_tokens ls in
     subst (λ (ts : List Token). Tail false (certificate_text (Given (l ∷ ls))) (the_by ∷ sign k.LBrace ∷ ts))
     (append_assoc (line_tokens l) more (sign k.RBrace ∷ []))
-    (weaker_tail (regroup_tail (codes " by {") (lines_text (l ∷ ls)) (codes "}") (sure_tail by_brace (cut_tail (cut_tail (line-cut l g.1.0)
+    (weaker_tail (regroup_tail (codes " by {") (lines_text (l ∷ ls)) (codes "}") (sure_tail by_brace (cut_tail (cut_tail (line-cut l g.0)
     (each_tail IsGoodLine (sign k.Comma) further_line line_tokens further-line ls g.1.1)) end_brace))))
 
 -- ---- steps

@@ -5,3 +5,6 @@ pub mod IndexSays
 pub mod ScriptSays
 pub mod Cuts
 pub mod CanonicalText
+pub mod ReadIndices
+pub mod ReadScripts
+pub mod ReadNames

@@ -32,7 +32,8 @@ use Rattle.schedule_script.specs.Steps.{IsPath, IsMultiplierBy, IsLine, IsCertif
 use Rattle.schedule_script.specs.Steps.{IfArguments, IsStep, IsFinalLine, replaced}
 use Rattle.schedule_script.specs.Script.{IsScript}
 use Rattle.script_printer.specs.declared.level.Level.TheVariants.{Sum}
-use Rattle.script_printer.specs.Printable.{AreGood, Each, IsCount, IsGoodArgument, IsGoodCertificate, IsGoodComparison, IsGoodFinal, IsGoodIndex, IsGoodLine}
+use Rattle.script_printer.specs.Printable.{AreSeparated, Each, IsCount, IsGoodArgument}
+use Rattle.script_printer.specs.Printable.{IsGoodCertificate, IsGoodComparison, IsGoodFinal, IsGoodIndex, IsGoodLine}
 use Rattle.script_printer.specs.Printable.{IsGoodPath, IsGoodStep, IsPrintable}
 use Rattle.script_printer.proofs.IndexSays.{index_tokens, index-says, number-says}
 
@@ -186,28 +187,28 @@ argument-says (Cond (c ∷ cs)) g =
     let right = index_tokens c.right Sum in
     let more = each_after the_and comparison_tokens cs in
     let left = index_tokens c.left Sum in
-    let few = g.1.0 in
+    let few = g.1.1.0 in
     let behind : Says (IsConditionAfter 999 c.left c.rel) (right ++ more) (Cond (c ∷ cs)) =
-    says_both right more c.right (a_index c.right g.1.1.0.1)
+    says_both right more c.right (a_index c.right g.1.0.1)
     (says_end more (c ∷ cs) (repeated-says the_and (IsComparison 999) comparison_tokens most_items (c ∷ []) cs (omega (arith, few))
     (each-says IsGoodComparison (IsComparison 999) comparison_tokens comparison-says cs g.1.1.1)) says_nothing) in
     let link = says_link conditions (λ n x r. IsConditionAfter 999 c.left r) 0 (Ix c.left) t c.rel (right ++ more) (Cond (c ∷ cs)) (Cond (c ∷ cs)) []
     (Cond (c ∷ cs)) (relation-is c.rel) (omega arith) behind refl (says_stop conditions (λ n x r. IsConditionAfter 999 c.left r) 0 (Cond (c ∷ cs))) in
     subst (λ (ts : List Token). Says (IsArgument 999) ts (Cond (c ∷ cs))) (sym (append_assoc left (t ∷ right) more))
-    (says_both left (t ∷ right ++ more) c.left (a_index c.left g.1.1.0.0)
+    (says_both left (t ∷ right ++ more) c.left (a_index c.left g.1.0.0)
     (subst (λ (ts : List Token). Says (IsChain conditions (λ n x r. IsConditionAfter 999 c.left r) 1 (Ix c.left)) (t ∷ ts) (Cond (c ∷ cs)))
     (append_none (right ++ more)) link))
 
-some_arguments : (x : ArgTree) (xs : List ArgTree) → AreGood IsGoodArgument (x ∷ xs)
+some_arguments : (x : ArgTree) (xs : List ArgTree) → AreSeparated IsGoodArgument (x ∷ xs)
     → Says AreArguments (argument_tokens x ++ (each_after (sign k.Comma) argument_tokens xs ++ sign k.RParen ∷ [])) (x ∷ xs)
 some_arguments x xs g =
-    let few = g.0 in
-    says_both (argument_tokens x) (each_after (sign k.Comma) argument_tokens xs ++ sign k.RParen ∷ []) x (argument-says x g.1.0)
+    let few = g.1.0 in
+    says_both (argument_tokens x) (each_after (sign k.Comma) argument_tokens xs ++ sign k.RParen ∷ []) x (argument-says x g.0)
     (says_both (each_after (sign k.Comma) argument_tokens xs) (sign k.RParen ∷ []) (x ∷ xs)
     (repeated-says (sign k.Comma) (IsArgument 999) argument_tokens most_items (x ∷ []) xs (omega (arith, few))
     (each-says IsGoodArgument (IsArgument 999) argument_tokens argument-says xs g.1.1)) (says_then tt refl says_nothing))
 
-arguments-say : (xs : List ArgTree) → AreGood IsGoodArgument xs → Says IfArguments (arguments_tokens xs) xs
+arguments-say : (xs : List ArgTree) → AreSeparated IsGoodArgument xs → Says IfArguments (arguments_tokens xs) xs
 unfolding signed
 arguments-say [] g = says_stop (signed k.LParen replaced) (λ m y o. AreArguments) 1 []
 arguments-say (x ∷ xs) g =
@@ -253,9 +254,9 @@ certificate-says : (x : Lines) → IsGoodCertificate x → Says IsCertificate (c
 certificate-says Default g = says_one k.Default (says_then tt refl says_nothing)
 certificate-says (Given []) g = says_one k.LBrace (says_then tt refl (says_one k.RBrace (says_then tt refl says_nothing)))
 certificate-says (Given (l ∷ ls)) g =
-    let few = g.0 in
+    let few = g.1.0 in
     says_one k.LBrace (says_then tt refl (says_one k.Number (says_both (line_tokens l) (each_after (sign k.Comma) line_tokens ls ++ sign k.RBrace ∷ []) l
-    (line-says l g.1.0) (says_both (each_after (sign k.Comma) line_tokens ls) (sign k.RBrace ∷ []) (l ∷ ls)
+    (line-says l g.0) (says_both (each_after (sign k.Comma) line_tokens ls) (sign k.RBrace ∷ []) (l ∷ ls)
     (repeated-says (sign k.Comma) IsLine line_tokens most_items (l ∷ []) ls (omega (arith, few)) (each-says IsGoodLine IsLine line_tokens line-says ls g.1.1))
     (says_then tt refl says_nothing)))))
 

@@ -62,13 +62,18 @@ Each P (x ∷ xs) = P x × Each P xs
 abbrev pub AreGood : {A : Type 0} → (A → Type 0) → List A → Type 0
 AreGood P xs = (length xs ≤ most_items) × Each P xs
 
+-- items with a separator between two
+abbrev pub AreSeparated : {A : Type 0} → (A → Type 0) → List A → Type 0
+AreSeparated P [] = Unit {0}
+AreSeparated P (x ∷ xs) = P x × AreGood P xs
+
 abbrev pub IsGoodComparison : Comparison → Type 0
 IsGoodComparison c = IsGoodIndex c.left × IsGoodIndex c.right
 
 -- a condition has a comparison
 abbrev pub IsGoodArgument : ArgTree → Type 0
 IsGoodArgument (Ix a) = IsGoodIndex a
-IsGoodArgument (Cond cs) = (0 < length cs) × AreGood IsGoodComparison cs
+IsGoodArgument (Cond cs) = (0 < length cs) × AreSeparated IsGoodComparison cs
 
 abbrev pub IsCount : ℕ → Type 0
 IsCount n = n < 2 ^ 32
@@ -79,7 +84,7 @@ IsGoodLine l = IsCount l.fact × (unsigned_abs l.multiplier ≤ 2147483648)
 
 abbrev pub IsGoodCertificate : Lines → Type 0
 IsGoodCertificate Default = Unit {0}
-IsGoodCertificate (Given ls) = AreGood IsGoodLine ls
+IsGoodCertificate (Given ls) = AreSeparated IsGoodLine ls
 
 abbrev pub IsGoodPath : Path → Type 0
 IsGoodPath p = IsCount p.output × AreGood IsCount p.steps
@@ -87,7 +92,7 @@ IsGoodPath p = IsCount p.output × AreGood IsCount p.steps
 pub record IsGoodStep (s : Step) : Type 0 where
   pub path : IsGoodPath s.path
   pub rule : IsName language.Script s.rule
-  pub args : AreGood IsGoodArgument s.args
+  pub args : AreSeparated IsGoodArgument s.args
   pub lines : AreGood IsGoodCertificate s.lines
 
 abbrev pub IsGoodFinal : FinalLine → Type 0

@@ -1,6 +1,8 @@
 //! Whole scripts.
 
 ghost use Rattle.std.specs.Prelude.{◌≡◌, ◌++◌, IfOk, MatchResult, OnOk, flat_map};
+ghost use Rattle.text_tokens.specs.Kinds.{Text};
+ghost use Rattle.schedule_script.specs.Script.{ScriptText};
 ghost use Rattle.script_printer.specs.Printable.{IsPrintable, ReadsBack};
 ghost use Rattle.script_printer.specs.Script.{step_text, final_text, further_path, parallel_text, body_text, script_text};
 ghost use Rattle.script_printer.specs.declared.fault.PrintFault.TheVariants.{Memory};
@@ -72,10 +74,13 @@ impl Writer {
     }
 }
 
-/// The canonical text of a script, which reads back as that script and as no other. Time is linear in the text.
+/// The canonical text of a script: one step, final line or section a line, parentheses only where they are needed. Time
+/// is linear in the text.
 pub fn print_script(alloc: Global, script: &Script) -> Result<Vec<u8>, PrintFault>
     ensures text { MatchResult result (λ text. text.items ≡ script_text script.now) (λ fault. fault ≡ Memory) }
     ensures reads_back { IsPrintable script.now → IfOk result (λ text. ReadsBack text.items script.now) }
+    // A script that was read from some text is printable.
+    ensures of_text { (z : Text) → ScriptText z script.now → IfOk result (λ text. ReadsBack text.items script.now) }
 {
     let mut writer = Writer::new(alloc);
     match writer.put_script(script) {
