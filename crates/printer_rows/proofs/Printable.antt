@@ -6,7 +6,6 @@ use Rattle.std.proofs.lemmas.Bool.{and_from}
 use Rattle.std.proofs.lemmas.Str.{chars-IsAscii, IsUtf8-from_ascii}
 use Rattle.unicode_ident.proofs.IdentLemmas.{is_xid_start-ascii}
 use Rattle.affine_index.specs.Form.{literal_form, size_form, var_form}
-use Rattle.affine_index.specs.Limited.{items_scoped}
 use Rattle.affine_index.specs.Normal.{atom_good, coefficients_fit, is_normal, is_ordered, is_short, items_good, layer_good}
 use Rattle.affine_index.specs.declared.form.Atom.TheVariants.{Size}
 use Rattle.affine_index.proofs.CountLaws.{count-Size, count-items}
