@@ -11,9 +11,11 @@ fn a_source_of_version_two_is_read(rt: HostRuntime) {
         return;
     };
     assert_eq!(rt; module.version, 2);
+    assert_eq!(rt; module.sizes.len(), 1);
     assert_eq!(rt; module.sizes.as_slice()[0].name.as_str(), "N");
     assert_eq!(rt; module.assumes.len(), 1);
     assert_eq!(rt; module.example.as_slice(), [3].as_slice());
+    assert_eq!(rt; module.inputs.len(), 1);
     assert_eq!(rt; module.inputs.as_slice()[0].extents.len(), 1);
     assert_eq!(rt; module.outputs.len(), 2);
     let first = &module.outputs.as_slice()[0];
