@@ -19,7 +19,7 @@ declarations() {
 
 # one term of sums of reads, each of an index expression that fills what is left of the bytes
 term() {
-  awk -v bytes="$1" -v reads=4900 'BEGIN { print "atl 1;\nsize N in 0..8;\nexample N = 3;\ninput A[9];\noutput B = gen i < N. ("
+  awk -v bytes="$1" -v reads=6600 'BEGIN { print "atl 1;\nsize N in 0..8;\nexample N = 3;\ninput A[9];\noutput B = gen i < N. ("
     each = int((bytes - 100) / reads) - 12
     for (n = 0; n < reads; n++) { if (n) printf (n % 70) ? " + " : ") + ("
       printf "A[i"; for (used = 1; used + 8 <= each; used += 8) printf " + i - i"; print "]" }
