@@ -1,5 +1,6 @@
 -- What the operations take: normal forms have small numbers, and give normal forms.
-use Rattle.std.proofs.Common.{◌≡◌, ℕ, ◌+◌, ◌*◌, ◌<◌, ◌≤◌, ◌^◌, refl, ap, sym, ◌∙◌, subst, arith, Bool, true, false, ◌&&◌, ◌⊎◌, inl, inr, Result, Ok, Err, IfOk, MatchResult}
+use Rattle.std.proofs.Common.{◌≡◌, ℕ, ◌+◌, ◌*◌, ◌<◌, ◌≤◌, ◌^◌, refl, ap, sym, ◌∙◌, subst, arith, Bool, true, false, ◌&&◌, ◌⊎◌, inl, inr, Result, Ok, Err, IfOk}
+use Rattle.std.proofs.Common.{MatchResult}
 use Rattle.std.specs.Prelude.{ℤ, negsuc}
 use Rattle.std.specs.Int.RustNames.{unsigned_abs}
 use mir.Syntax.{w64}
@@ -38,7 +39,8 @@ pub difference-room : (a b x y : Items) → x ≡ a → y ≡ scaled (negsuc 0) 
 difference-room a b x y e f p q = omega (arith, ap norm e, ap norm f, normal-norm a p, normal-norm b q, scaled-norm (negsuc 0) b)
 
 pub scale-room : (c : ℤ) (a x : Items) → unsigned_abs c ≤ 2 ^ 63 → x ≡ a → is_normal a ≡ true → unsigned_abs c * norm x < 2 ^ 127
-scale-room c a x h e p = omega (arith, ap norm e, most (unsigned_abs c) (norm a) (2 ^ 63) (2 ^ 48) h (normal-norm a p), ap (λ n. unsigned_abs c * n) (ap norm e))
+scale-room c a x h e p = omega (arith, ap norm e, most (unsigned_abs c) (norm a) (2 ^ 63) (2 ^ 48) h (normal-norm a p),
+    ap (λ n. unsigned_abs c * n) (ap norm e))
   where
     most : (a b c d : ℕ) → a ≤ c → b ≤ d → a * b ≤ c * d
     most a b c d p q = grind arith
@@ -87,7 +89,8 @@ one-room a x e p = omega (arith, ap norm e, normal-norm a p)
 pub second-room : (a x : Items) → x ≡ a → is_normal a ≡ true → norm x < 2 ^ 127
 second-room a x e p = omega (arith, ap norm e, normal-norm a p)
 
-pub ordered-product : (a b x : Items) → x ≡ product_of a b → (holds_var a && holds_var b) ≡ false → is_normal a ≡ true → is_normal b ≡ true → is_ordered x ≡ true
+pub ordered-product : (a b x : Items) → x ≡ product_of a b → (holds_var a && holds_var b) ≡ false → is_normal a ≡ true → is_normal b ≡ true
+    → is_ordered x ≡ true
 ordered-product a b x e n p q = ap is_ordered e ∙ products-ordered a b (normal-ordered a p) (normal-ordered b q) (apart-is a b n)
 
 pub ordered-quotient : (a x : Items) (k : ℕ) → x ≡ quotient_of a k → 0 < k → k ≤ 2147483647 → is_normal a ≡ true → is_ordered x ≡ true

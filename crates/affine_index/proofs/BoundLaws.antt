@@ -59,18 +59,21 @@ module _ (s v maxima most : List ℕ) (ws : WithinMaxima s maxima) (wv : WithinM
   AtomUp a = Ordered a → atom_scoped (length maxima) (length most) a ≡ true → UpTo (atom_value s v a) (atom_magnitude maxima most a)
 
   abbrev FormUp : Items → Type 0
-  FormUp i = is_ordered i ≡ true → items_scoped (length maxima) (length most) i ≡ true → (k : ℕ) → all_remainders k i.terms ≡ true → is_remainder k i.constant ≡ true → has_items i.terms ≡ true
+  FormUp i = is_ordered i ≡ true → items_scoped (length maxima) (length most) i ≡ true → (k : ℕ) → all_remainders k i.terms ≡ true
+      → is_remainder k i.constant ≡ true → has_items i.terms ≡ true
       → UpTo (items_value s v i) (magnitude maxima most i)
 
   size_up : (k : ℕ) → AtomUp (Size k)
   size_up k o h =
       let w = ws k (below k (length maxima) (sym (scoped-Size (length maxima) (length most) k) ∙ h)) in
-      record { number = slice_index s k; is = value-Size s v k; most = omega (arith, w.0, mag-Size maxima most k); positive = omega (arith, w.1, mag-Size maxima most k) }
+      record { number = slice_index s k; is = value-Size s v k; most = omega (arith, w.0, mag-Size maxima most k); positive =
+          omega (arith, w.1, mag-Size maxima most k) }
 
   var_up : (k : ℕ) → AtomUp (Var k)
   var_up k o h =
       let w = wv k (below k (length most) (sym (scoped-Var (length maxima) (length most) k) ∙ h)) in
-      record { number = slice_index v k; is = value-Var s v k; most = omega (arith, w.0, mag-Var maxima most k); positive = omega (arith, w.1, mag-Var maxima most k) }
+      record { number = slice_index v k; is = value-Var s v k; most = omega (arith, w.0, mag-Var maxima most k); positive =
+          omega (arith, w.1, mag-Var maxima most k) }
 
   quotient-least : (n k : ℕ) → n / k ≤ n
   quotient-least n k = div-le_self n k
@@ -90,16 +93,19 @@ module _ (s v maxima most : List ℕ) (ws : WithinMaxima s maxima) (wv : WithinM
         positive = omega (arith, u.positive, mag-Div maxima most i k);
       }
 
-  factors_up : (fs : List Atom) → Each AtomUp fs → Each Ordered fs → all_true (map (atom_scoped (length maxima) (length most)) fs) ≡ true → UpTo (factors_value s v fs) (factors_magnitude maxima most fs)
+  factors_up : (fs : List Atom) → Each AtomUp fs → Each Ordered fs → all_true (map (atom_scoped (length maxima) (length most)) fs) ≡ true
+      → UpTo (factors_value s v fs) (factors_magnitude maxima most fs)
   factors_up [] h o g = record { number = 1; is = refl; most = omega arith; positive = omega arith }
   factors_up (f ∷ fs) h o g =
       let gs = and_parts (atom_scoped (length maxima) (length most) f) (all_true (map (atom_scoped (length maxima) (length most)) fs)) g in
-      product-up (atom_value s v f) (factors_value s v fs) (atom_magnitude maxima most f) (factors_magnitude maxima most fs) (h.0 o.0 gs.0) (factors_up fs h.1 o.1 gs.1)
+      product-up (atom_value s v f) (factors_value s v fs) (atom_magnitude maxima most f) (factors_magnitude maxima most fs) (h.0 o.0 gs.0)
+          (factors_up fs h.1 o.1 gs.1)
 
   mul_up : (fs : List Atom) → Each AtomUp fs → AtomUp (Mul fs)
   mul_up fs h o g =
       let u = factors_up fs h (mul_parts fs o).good.ordered (sym (scoped-Mul (length maxima) (length most) fs) ∙ g) in
-      record { number = u.number; is = value-Mul s v fs ∙ u.is; most = omega (arith, u.most, mag-Mul maxima most fs); positive = omega (arith, u.positive, mag-Mul maxima most fs) }
+      record { number = u.number; is = value-Mul s v fs ∙ u.is; most = omega (arith, u.most, mag-Mul maxima most fs); positive =
+          omega (arith, u.positive, mag-Mul maxima most fs) }
 
   item_up : (k : ℕ) (c : ℤ) (x : ℤ) (m : ℕ) → is_remainder k c ≡ true → UpTo x m → Part (c *ℤ x) (unsigned_abs c * m)
   item_up k (pos n) x m r u = record { number = n * u.number; is = ap (λ z. pos n *ℤ z) u.is; most = both n u.number m u.most }
@@ -108,7 +114,8 @@ module _ (s v maxima most : List ℕ) (ws : WithinMaxima s maxima) (wv : WithinM
       both n a b p = grind arith
   item_up k (negsuc n) x m r u = absurd (cc)
 
-  terms_up : (k : ℕ) (ts : List (Item Atom)) → EachTerm AtomUp ts → EachItem GoodItem ts → all_firsts (map (scoped_term (length maxima) (length most)) ts) ≡ true → all_remainders k ts ≡ true
+  terms_up : (k : ℕ) (ts : List (Item Atom)) → EachTerm AtomUp ts → EachItem GoodItem ts
+      → all_firsts (map (scoped_term (length maxima) (length most)) ts) ≡ true → all_remainders k ts ≡ true
       → Part (terms_value s v ts) (terms_magnitude maxima most ts)
   terms_up k [] h o g r = record { number = 0; is = refl; most = omega arith }
   terms_up k (t ∷ ts) h o g r =
@@ -118,7 +125,8 @@ module _ (s v maxima most : List ℕ) (ws : WithinMaxima s maxima) (wv : WithinM
       let b = terms_up k ts h.1 o.1 gs.1 rs.1 in
       record { number = a.number + b.number; is = λ i. a.is i +ℤ b.is i; most = omega (arith, a.most, b.most) }
 
-  some_positive : (ts : List (Item Atom)) → EachTerm AtomUp ts → EachItem GoodItem ts → all_firsts (map (scoped_term (length maxima) (length most)) ts) ≡ true → has_items ts ≡ true → 1 ≤ terms_magnitude maxima most ts
+  some_positive : (ts : List (Item Atom)) → EachTerm AtomUp ts → EachItem GoodItem ts → all_firsts (map (scoped_term (length maxima) (length most)) ts) ≡ true
+      → has_items ts ≡ true → 1 ≤ terms_magnitude maxima most ts
   some_positive [] h o g n = absurd (cc)
   some_positive (t ∷ ts) h o g n =
       let gs = and_parts (atom_scoped (length maxima) (length most) t.atom) (all_firsts (map (scoped_term (length maxima) (length most)) ts)) g in

@@ -27,13 +27,15 @@ twice held b (Some r) = ap Some (and_again held b r)
 -- one comparison more that has a value
 pub held_after-step : (s v : List ℕ) (held b : Bool) (c : Cmp) (cs : List Cmp) → cmp_limited s v c ≡ Some b
     → held_after held (all_limited s v (c ∷ cs)) ≡ held_after (held && b) (all_limited s v cs)
-held_after-step s v held b c cs e = ap (λ o. held_after held (option_and_then (λ first. option_map (λ rest. first && rest) (all_limited s v cs)) o)) e ∙ twice held b (all_limited s v cs)
+held_after-step s v held b c cs e = ap (λ o. held_after held (option_and_then (λ first. option_map (λ rest. first && rest) (all_limited s v cs)) o)) e
+    ∙ twice held b (all_limited s v cs)
 
 -- one comparison more that has none
 pub held_after-none : (s v : List ℕ) (held : Bool) (c : Cmp) (cs : List Cmp) → cmp_limited s v c ≡ None → held_after held (all_limited s v (c ∷ cs)) ≡ None
 held_after-none s v held c cs e = ap (λ o. held_after held (option_and_then (λ first. option_map (λ rest. first && rest) (all_limited s v cs)) o)) e
 
-cmp_value : (s v : List ℕ) (c : Cmp) (o : Option ℤ) (b : Bool) → ((x : ℤ) → o ≡ Some x → x ≡ items_value s v (cmp_form c)) → option_map (cmp_at c) o ≡ Some b → b ≡ cmp_holds s v c
+cmp_value : (s v : List ℕ) (c : Cmp) (o : Option ℤ) (b : Bool) → ((x : ℤ) → o ≡ Some x → x ≡ items_value s v (cmp_form c)) → option_map (cmp_at c) o ≡ Some b
+    → b ≡ cmp_holds s v c
 cmp_value s v c None b h e = absurd (cc)
 cmp_value s v c (Some x) b h e = let e2 : b ≡ cmp_at c x = cc in e2 ∙ ap (cmp_at c) (h x refl)
 

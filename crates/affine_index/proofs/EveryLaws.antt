@@ -1,7 +1,8 @@
 -- The equations of a test of every atom and every form within a form.
 use Rattle.std.proofs.Common.{◌≡◌, ℕ, List, [], ◌∷◌, map, refl, ap, sym, ◌∙◌, Bool, ◌&&◌}
 use Rattle.std.specs.Prelude.{ℤ}
-use Rattle.affine_index.specs.Every.{Told, whole_atoms, whole_items, all_told, all_terms_told, every_step, every_items_step, atom_every, items_every, atoms_every, terms_every}
+use Rattle.affine_index.specs.Every.{Told, whole_atoms, whole_items, all_told, all_terms_told, every_step, every_items_step, atom_every, items_every}
+use Rattle.affine_index.specs.Every.{atoms_every, terms_every}
 use Rattle.affine_index.proofs.Induction.{Each, EachTerm, for_atoms, for_items}
 use Rattle.affine_index.specs.declared.form.Atom.{Atom}
 use Rattle.affine_index.specs.declared.form.Item.{Item}
@@ -49,14 +50,18 @@ module _ (p : Atom → Bool) (q : Items → Bool) where
   whole-Mul : (fs : List Atom) → Each (λ a. (told a).whole ≡ a) fs → (told (Mul fs)).whole ≡ Mul fs
   whole-Mul fs h = ap (λ r. r.whole) (told-Mul fs) ∙ ap Mul (wholes-is fs h)
 
-  whole-form : (ts : List (Item Atom)) (c : ℤ) → EachTerm (λ a. (told a).whole ≡ a) ts → (told_items (record { terms = ts; constant = c })).whole ≡ record { terms = ts; constant = c }
-  whole-form ts c h = ap (λ r. r.whole) (told-items (record { terms = ts; constant = c })) ∙ ap (λ us. record { terms = us; constant = c }) (whole_items-is ts h)
+  whole-form : (ts : List (Item Atom)) (c : ℤ) → EachTerm (λ a. (told a).whole ≡ a) ts
+      → (told_items (record { terms = ts; constant = c })).whole ≡ record { terms = ts; constant = c }
+  whole-form ts c h = ap (λ r. r.whole) (told-items (record { terms = ts; constant = c }))
+      ∙ ap (λ us. record { terms = us; constant = c }) (whole_items-is ts h)
 
   whole-is : (a : Atom) → (told a).whole ≡ a
-  whole-is = for_atoms (λ a. (told a).whole ≡ a) (λ i. (told_items i).whole ≡ i) (λ s. ap (λ r. r.whole) (told-Size s)) (λ v. ap (λ r. r.whole) (told-Var v)) whole-Div whole-Mul whole-form
+  whole-is = for_atoms (λ a. (told a).whole ≡ a) (λ i. (told_items i).whole ≡ i) (λ s. ap (λ r. r.whole) (told-Size s)) (λ v. ap (λ r. r.whole) (told-Var v))
+      whole-Div whole-Mul whole-form
 
   whole_form-is : (i : Items) → (told_items i).whole ≡ i
-  whole_form-is = for_items (λ a. (told a).whole ≡ a) (λ i. (told_items i).whole ≡ i) (λ s. ap (λ r. r.whole) (told-Size s)) (λ v. ap (λ r. r.whole) (told-Var v)) whole-Div whole-Mul whole-form
+  whole_form-is = for_items (λ a. (told a).whole ≡ a) (λ i. (told_items i).whole ≡ i) (λ s. ap (λ r. r.whole) (told-Size s))
+      (λ v. ap (λ r. r.whole) (told-Var v)) whole-Div whole-Mul whole-form
 
   all_wholes : (fs : List Atom) → Each (λ a. (told a).whole ≡ a) fs
   all_wholes [] = tt
@@ -87,4 +92,5 @@ module _ (p : Atom → Bool) (q : Items → Bool) where
   every-Mul fs = ap (λ r. r.holds) (told-Mul fs) ∙ (λ k. p (Mul (wholes-is fs (all_wholes fs) k)) && all_told-is fs k)
 
   pub every-items : (i : Items) → items_every p q i ≡ (q i && terms_every p q i.terms)
-  every-items i = ap (λ r. r.holds) (told-items i) ∙ (λ k. q (record { terms = whole_items-is i.terms (all_whole_terms i.terms) k; constant = i.constant }) && all_terms_told-is i.terms k)
+  every-items i = ap (λ r. r.holds) (told-items i)
+      ∙ (λ k. q (record { terms = whole_items-is i.terms (all_whole_terms i.terms) k; constant = i.constant }) && all_terms_told-is i.terms k)

@@ -1,11 +1,13 @@
 -- Products of atoms: lists of factors in order, at most one of which holds an index variable.
-use Rattle.std.proofs.Common.{◌≡◌, ℕ, suc, ◌+◌, ◌≤◌, ◌⊎◌, inl, inr, List, [], ◌∷◌, length, refl, ap, sym, ◌∙◌, subst, arith, Bool, true, false, ◌||◌, nat_le, not}
+use Rattle.std.proofs.Common.{◌≡◌, ℕ, suc, ◌+◌, ◌≤◌, ◌⊎◌, inl, inr, List, [], ◌∷◌, length, refl, ap, sym, ◌∙◌, subst, arith, Bool, true, false, ◌||◌, nat_le}
+use Rattle.std.proofs.Common.{not}
 use Rattle.std.specs.Ordering.{is_le, ordering_reverse}
 use Rattle.std.specs.declared.cmp.Ordering.{Ordering}
 use Rattle.std.specs.declared.cmp.Ordering.TheVariants.{Less, Equal, Greater}
 use Rattle.std.proofs.lemmas.Bool.{and_from, and_parts}
 use Rattle.affine_index.specs.Every.{atoms_every}
-use Rattle.affine_index.specs.Normal.{all_base, atom_good, atom_holds_var, atom_is_ordered, base_layer, factor_before, factors_in_order, items_good, no_vars, one_var}
+use Rattle.affine_index.specs.Normal.{all_base, atom_good, atom_holds_var, atom_is_ordered, base_layer, factor_before, factors_in_order, items_good, no_vars}
+use Rattle.affine_index.specs.Normal.{one_var}
 use Rattle.affine_index.specs.Order.{atom_order}
 use Rattle.affine_index.specs.Product.{atom_product, factor_onto, factor_onto_by, factors_of, layer_factors, merged_factors}
 use Rattle.affine_index.proofs.EqualLaws.{atom_order-Equal}
@@ -21,11 +23,13 @@ use Rattle.affine_index.specs.declared.form.Items.{Items}
 
 -- a fact of each factor of two lists is one of those of both
 module _ (P : Atom → Type 0) where
-  pub factor_onto-each : (a : Atom) (as' bs : List Atom) → P a → Each P bs → ((cs : List Atom) → Each P cs → Each P (merged_factors as' cs)) → Each P (factor_onto a (merged_factors as') bs)
+  pub factor_onto-each : (a : Atom) (as' bs : List Atom) → P a → Each P bs → ((cs : List Atom) → Each P cs → Each P (merged_factors as' cs))
+      → Each P (factor_onto a (merged_factors as') bs)
   factor_onto-each a as' [] pa pb h = (pa, h [] tt)
   factor_onto-each a as' (b ∷ bs) pa pb h = by_order (atom_order a b) (factor_onto-each a as' bs pa pb.1 h)
     where
-      by_order : (o : Ordering) → Each P (factor_onto a (merged_factors as') bs) → Each P (factor_onto_by o a (merged_factors as') b bs (factor_onto a (merged_factors as') bs))
+      by_order : (o : Ordering) → Each P (factor_onto a (merged_factors as') bs)
+          → Each P (factor_onto_by o a (merged_factors as') b bs (factor_onto a (merged_factors as') bs))
       by_order Less later = (pa, h (b ∷ bs) pb)
       by_order Equal later = (pa, h (b ∷ bs) pb)
       by_order Greater later = (pb.0, later)
@@ -63,14 +67,16 @@ after_all x y fs e = each_weaken (AtMost y) (AtMost x) (λ a h. at_most-trans x 
 turned : (a b : Atom) → atom_order a b ≡ Greater → AtMost b a
 turned a b e = ap is_le (order-reverse b a ∙ ap ordering_reverse e)
 
-factor_onto-sorted : (a : Atom) (as' bs : List Atom) → Each (AtMost a) as' → SortedFactors bs → ((cs : List Atom) → SortedFactors cs → SortedFactors (merged_factors as' cs)) → SortedFactors (factor_onto a (merged_factors as') bs)
+factor_onto-sorted : (a : Atom) (as' bs : List Atom) → Each (AtMost a) as' → SortedFactors bs
+    → ((cs : List Atom) → SortedFactors cs → SortedFactors (merged_factors as' cs)) → SortedFactors (factor_onto a (merged_factors as') bs)
 factor_onto-sorted a as' [] sa sb h = (factors-each (AtMost a) as' [] sa tt, h [] tt)
 factor_onto-sorted a as' (b ∷ bs) sa sb h = by_order (atom_order a b) refl (factor_onto-sorted a as' bs sa sb.1 h)
   where
     a_first : AtMost a b → Each (AtMost a) (merged_factors as' (b ∷ bs))
     a_first e = factors-each (AtMost a) as' (b ∷ bs) sa (e, after_all a b bs e sb.0)
 
-    by_order : (o : Ordering) → atom_order a b ≡ o → SortedFactors (factor_onto a (merged_factors as') bs) → SortedFactors (factor_onto_by o a (merged_factors as') b bs (factor_onto a (merged_factors as') bs))
+    by_order : (o : Ordering) → atom_order a b ≡ o → SortedFactors (factor_onto a (merged_factors as') bs)
+        → SortedFactors (factor_onto_by o a (merged_factors as') b bs (factor_onto a (merged_factors as') bs))
     by_order Less e later = (a_first (ap is_le e), h (b ∷ bs) sb)
     by_order Equal e later = (a_first (ap is_le e), h (b ∷ bs) sb)
     by_order Greater e later =
@@ -100,7 +106,8 @@ factors-in_order : (fs : List Atom) → SortedFactors fs → factors_in_order fs
 factors-in_order [] s = refl
 factors-in_order (f ∷ fs) s = and_from (factor_before f fs) (factors_in_order fs) (first_is f fs s.0) (factors-in_order fs s.1)
 
-length_onto : (a : Atom) (as' bs : List Atom) → ((cs : List Atom) → length (merged_factors as' cs) ≡ length as' + length cs) → length (factor_onto a (merged_factors as') bs) ≡ suc (length as' + length bs)
+length_onto : (a : Atom) (as' bs : List Atom) → ((cs : List Atom) → length (merged_factors as' cs) ≡ length as' + length cs)
+    → length (factor_onto a (merged_factors as') bs) ≡ suc (length as' + length bs)
 length_onto a as' [] h = ap suc (h [])
 length_onto a as' (b ∷ bs) h = by_order (atom_order a b) (length_onto a as' bs h)
   where
@@ -123,7 +130,8 @@ abbrev pub OneVar : List Atom → Type 0
 OneVar [] = Unit {0}
 OneVar (f ∷ fs) = (NoVar f ⊎ Each NoVar fs) × OneVar fs
 
-one_onto-left : (a : Atom) (as' bs : List Atom) → NoVar a → Each NoVar as' → OneVar bs → ((cs : List Atom) → OneVar cs → OneVar (merged_factors as' cs)) → OneVar (factor_onto a (merged_factors as') bs)
+one_onto-left : (a : Atom) (as' bs : List Atom) → NoVar a → Each NoVar as' → OneVar bs → ((cs : List Atom) → OneVar cs → OneVar (merged_factors as' cs))
+    → OneVar (factor_onto a (merged_factors as') bs)
 one_onto-left a as' [] na ns ob h = (inl na, h [] tt)
 one_onto-left a as' (b ∷ bs) na ns ob h = by_order (atom_order a b) (one_onto-left a as' bs na ns ob.1 h)
   where
@@ -131,7 +139,8 @@ one_onto-left a as' (b ∷ bs) na ns ob h = by_order (atom_order a b) (one_onto-
     b_first (inl n) = inl n
     b_first (inr n) = inr (factor_onto-each NoVar a as' bs na n (λ cs hc. factors-each NoVar as' cs ns hc))
 
-    by_order : (o : Ordering) → OneVar (factor_onto a (merged_factors as') bs) → OneVar (factor_onto_by o a (merged_factors as') b bs (factor_onto a (merged_factors as') bs))
+    by_order : (o : Ordering) → OneVar (factor_onto a (merged_factors as') bs)
+        → OneVar (factor_onto_by o a (merged_factors as') b bs (factor_onto a (merged_factors as') bs))
     by_order Less later = (inl na, h (b ∷ bs) ob)
     by_order Equal later = (inl na, h (b ∷ bs) ob)
     by_order Greater later = (b_first ob.0, later)
@@ -140,7 +149,8 @@ one-left : (as' bs : List Atom) → Each NoVar as' → OneVar bs → OneVar (mer
 one-left [] bs na ob = ob
 one-left (a ∷ as') bs na ob = one_onto-left a as' bs na.0 na.1 ob (λ cs hc. one-left as' cs na.1 hc)
 
-one_onto-right : (a : Atom) (as' bs : List Atom) → (NoVar a ⊎ Each NoVar as') → Each NoVar bs → ((cs : List Atom) → Each NoVar cs → OneVar (merged_factors as' cs)) → OneVar (factor_onto a (merged_factors as') bs)
+one_onto-right : (a : Atom) (as' bs : List Atom) → (NoVar a ⊎ Each NoVar as') → Each NoVar bs
+    → ((cs : List Atom) → Each NoVar cs → OneVar (merged_factors as' cs)) → OneVar (factor_onto a (merged_factors as') bs)
 one_onto-right a as' bs oa nb h = by_list bs nb
   where
     a_first : (cs : List Atom) → (NoVar a ⊎ Each NoVar as') → Each NoVar cs → NoVar a ⊎ Each NoVar (merged_factors as' cs)
@@ -151,7 +161,8 @@ one_onto-right a as' bs oa nb h = by_list bs nb
     by_list [] nc = (a_first [] oa tt, h [] tt)
     by_list (c ∷ cs) nc = by_order (atom_order a c) (by_list cs nc.1)
       where
-        by_order : (o : Ordering) → OneVar (factor_onto a (merged_factors as') cs) → OneVar (factor_onto_by o a (merged_factors as') c cs (factor_onto a (merged_factors as') cs))
+        by_order : (o : Ordering) → OneVar (factor_onto a (merged_factors as') cs)
+            → OneVar (factor_onto_by o a (merged_factors as') c cs (factor_onto a (merged_factors as') cs))
         by_order Less later = (a_first (c ∷ cs) oa nc, h (c ∷ cs) nc)
         by_order Equal later = (a_first (c ∷ cs) oa nc, h (c ∷ cs) nc)
         by_order Greater later = (inl nc.0, later)
@@ -323,5 +334,6 @@ product-ordered a b oa ob n =
     every-Mul atom_good items_good fs ∙ and_from (atom_good (Mul fs)) (atoms_every atom_good items_good fs)
     (good-Mul fs ∙ and_from (nat_le 2 (length fs)) _ (two_from (length fs) two)
     (and_from (all_base fs) _ (each-base fs (factors-each Base (factors_of a) (factors_of b) ga.base gb.base))
-    (and_from (factors_in_order fs) (one_var fs) (factors-in_order fs (factors-sorted (factors_of a) (factors_of b) ga.sorted gb.sorted)) (one_var-from fs (one_product a b oa ob n)))))
+    (and_from (factors_in_order fs) (one_var fs) (factors-in_order fs (factors-sorted (factors_of a) (factors_of b) ga.sorted gb.sorted))
+        (one_var-from fs (one_product a b oa ob n)))))
     (each-every fs (factors-each Ordered (factors_of a) (factors_of b) ga.ordered gb.ordered))

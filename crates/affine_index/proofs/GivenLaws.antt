@@ -22,9 +22,11 @@ var-normal v =
     (and_from (coefficients_fit (var_form v)) (is_short (var_form v)) refl (simp (count-items, count-Var)))
 
 pub zero-normal : is_normal (literal_form (pos 0)) ≡ true
-zero-normal = and_from (is_ordered (literal_form (pos 0))) _ (literal-ordered (pos 0)) (and_from (coefficients_fit (literal_form (pos 0))) (is_short (literal_form (pos 0))) refl (simp (count-items)))
+zero-normal = and_from (is_ordered (literal_form (pos 0))) _ (literal-ordered (pos 0))
+    (and_from (coefficients_fit (literal_form (pos 0))) (is_short (literal_form (pos 0))) refl (simp (count-items)))
 
-pub given-normal : (forms : List Items) → ((k : ℕ) (d : Items) → k < length forms → is_normal (get_or forms k d) ≡ true) → (v : ℕ) → is_normal (given forms v) ≡ true
+pub given-normal : (forms : List Items) → ((k : ℕ) (d : Items) → k < length forms → is_normal (get_or forms k d) ≡ true) → (v : ℕ)
+    → is_normal (given forms v) ≡ true
 given-normal [] h v = zero-normal
 given-normal (i ∷ is) h zero = h 0 (literal_form (pos 0)) (omega arith)
 given-normal (i ∷ is) h (suc v) = given-normal is (λ k d lt. h (suc k) d (omega arith)) v

@@ -21,7 +21,8 @@ EachTerm P (t ∷ ts) = P t.atom × EachTerm P ts
 
 module _ (P : Atom → Type 0) (Q : Items → Type 0)
     (at_size : (s : ℕ) → P (Size s)) (at_var : (v : ℕ) → P (Var v)) (at_div : (i : Items) (k : ℕ) → Q i → P (Div i k))
-    (at_mul : (fs : List Atom) → Each P fs → P (Mul fs)) (at_form : (ts : List (Item Atom)) (c : ℤ) → EachTerm P ts → Q (record { terms = ts; constant = c })) where
+    (at_mul : (fs : List Atom) → Each P fs → P (Mul fs)) (at_form : (ts : List (Item Atom)) (c : ℤ) → EachTerm P ts → Q (record { terms = ts; constant = c }))
+        where
   abbrev GoodAtom : Type 0
   GoodAtom = (a : Atom) × P a
 

@@ -3,7 +3,8 @@ use Rattle.std.proofs.Common.{◌≡◌, ℕ, List, [], ◌∷◌, map, refl, ap
 use Rattle.std.specs.Prelude.{ℤ, pos, ◌*ℤ◌, slice_index}
 use Rattle.std.specs.Option.{option_and_then}
 use Rattle.std.specs.Int.{int_div_euclid}
-use Rattle.affine_index.specs.Limited.{limited, through, plus, added, times_step, total_step, times, limited_value, times_all, added_all, ready_step, scoped_items_step, atom_ready, items_ready, atoms_ready, terms_ready, all_true, all_firsts}
+use Rattle.affine_index.specs.Limited.{limited, through, plus, added, times_step, total_step, times, limited_value, times_all, added_all, ready_step}
+use Rattle.affine_index.specs.Limited.{scoped_items_step, atom_ready, items_ready, atoms_ready, terms_ready, all_true, all_firsts}
 use Rattle.affine_index.specs.declared.form.Atom.{Atom}
 use Rattle.affine_index.specs.declared.form.Items.{Items}
 use Rattle.affine_index.specs.declared.form.Item.{Item}
@@ -17,22 +18,27 @@ and_then-same f g e (Some x) = e x
 
 module _ (s v : List ℕ) where
   pub times-Size : (k : ℕ) (c : ℤ) → times s v (Size k) c ≡ limited (c *ℤ pos (slice_index s k))
-  times-Size k c = ap (λ a. times s v a c) (sym (rolls-Size k)) ∙ ap (λ f. f c) (fold-roll-Atom (ℤ → Option ℤ) (Option ℤ) (times_step s v) (total_step s v) (Atom-F.Size k))
+  times-Size k c = ap (λ a. times s v a c) (sym (rolls-Size k))
+      ∙ ap (λ f. f c) (fold-roll-Atom (ℤ → Option ℤ) (Option ℤ) (times_step s v) (total_step s v) (Atom-F.Size k))
 
   pub times-Var : (k : ℕ) (c : ℤ) → times s v (Var k) c ≡ limited (c *ℤ pos (slice_index v k))
-  times-Var k c = ap (λ a. times s v a c) (sym (rolls-Var k)) ∙ ap (λ f. f c) (fold-roll-Atom (ℤ → Option ℤ) (Option ℤ) (times_step s v) (total_step s v) (Atom-F.Var k))
+  times-Var k c = ap (λ a. times s v a c) (sym (rolls-Var k))
+      ∙ ap (λ f. f c) (fold-roll-Atom (ℤ → Option ℤ) (Option ℤ) (times_step s v) (total_step s v) (Atom-F.Var k))
 
   pub times-Div : (i : Items) (k : ℕ) (c : ℤ) → times s v (Div i k) c ≡ option_and_then (λ w. limited (c *ℤ int_div_euclid w (pos k))) (limited_value s v i)
-  times-Div i k c = ap (λ a. times s v a c) (sym (rolls-Div i k)) ∙ ap (λ f. f c) (fold-roll-Atom (ℤ → Option ℤ) (Option ℤ) (times_step s v) (total_step s v) (Atom-F.Div i k))
+  times-Div i k c = ap (λ a. times s v a c) (sym (rolls-Div i k))
+      ∙ ap (λ f. f c) (fold-roll-Atom (ℤ → Option ℤ) (Option ℤ) (times_step s v) (total_step s v) (Atom-F.Div i k))
 
   through_map : (fs : List Atom) (c : ℤ) → through (map (times s v) fs) c ≡ times_all s v fs c
   through_map [] c = refl
   through_map (f ∷ fs) c = and_then-same _ _ (through_map fs) (times s v f c)
 
   pub times-Mul : (fs : List Atom) (c : ℤ) → times s v (Mul fs) c ≡ times_all s v fs c
-  times-Mul fs c = ap (λ a. times s v a c) (sym (rolls-Mul fs)) ∙ ap (λ f. f c) (fold-roll-Atom (ℤ → Option ℤ) (Option ℤ) (times_step s v) (total_step s v) (Atom-F.Mul fs)) ∙ through_map fs c
+  times-Mul fs c = ap (λ a. times s v a c) (sym (rolls-Mul fs))
+      ∙ ap (λ f. f c) (fold-roll-Atom (ℤ → Option ℤ) (Option ℤ) (times_step s v) (total_step s v) (Atom-F.Mul fs)) ∙ through_map fs c
 
-  added_map : (ts : List (Item Atom)) (total : ℤ) → added (map (λ t. record { atom = times s v t.atom; coefficient = t.coefficient }) ts) total ≡ added_all s v ts total
+  added_map : (ts : List (Item Atom)) (total : ℤ)
+      → added (map (λ t. record { atom = times s v t.atom; coefficient = t.coefficient }) ts) total ≡ added_all s v ts total
   added_map [] total = refl
   added_map (t ∷ ts) total = and_then-same _ _ (added_map ts) (plus total (times s v t.atom t.coefficient))
 

@@ -1,8 +1,10 @@
 -- The equations of the magnitude, and its stop.
-use Rattle.std.proofs.Common.{◌≡◌, ℕ, suc, ◌+◌, ◌*◌, ◌<◌, ◌≤◌, List, [], ◌∷◌, ◌⊎◌, inl, inr, true, false, nat_le, zero, length, drop, get_or, map, min, refl, ap, sym, ◌∙◌, arith}
+use Rattle.std.proofs.Common.{◌≡◌, ℕ, suc, ◌+◌, ◌*◌, ◌<◌, ◌≤◌, List, [], ◌∷◌, ◌⊎◌, inl, inr, true, false, nat_le, zero, length, drop, get_or, map, min, refl}
+use Rattle.std.proofs.Common.{ap, sym, ◌∙◌, arith}
 use Rattle.std.specs.Prelude.{slice_index}
 use Rattle.std.specs.Int.RustNames.{unsigned_abs}
-use Rattle.affine_index.specs.Magnitude.{atom_magnitude, factors_magnitude, magnitude, magnitude_items_step, magnitude_step, product_of_magnitudes, sum_of_magnitudes, terms_magnitude}
+use Rattle.affine_index.specs.Magnitude.{atom_magnitude, factors_magnitude, magnitude, magnitude_items_step, magnitude_step, product_of_magnitudes}
+use Rattle.affine_index.specs.Magnitude.{sum_of_magnitudes, terms_magnitude}
 use Rattle.affine_index.proofs.LimitedLaws.{ready-Size, ready-Var, ready-Div, ready-Mul, ready-items}
 use Rattle.affine_index.proofs.Lists.{drop-item}
 use Rattle.affine_index.specs.declared.form.Atom.{Atom}
@@ -27,9 +29,11 @@ module _ (s v : List ℕ) where
   product_map (f ∷ fs) = ap (λ x. atom_magnitude s v f * x) (product_map fs)
 
   pub mag-Mul : (fs : List Atom) → atom_magnitude s v (Mul fs) ≡ factors_magnitude s v fs
-  mag-Mul fs = ap (atom_magnitude s v) (sym (rolls-Mul fs)) ∙ fold-roll-Atom ℕ ℕ (magnitude_step s v) (magnitude_items_step s v) (Atom-F.Mul fs) ∙ product_map fs
+  mag-Mul fs = ap (atom_magnitude s v) (sym (rolls-Mul fs)) ∙ fold-roll-Atom ℕ ℕ (magnitude_step s v) (magnitude_items_step s v) (Atom-F.Mul fs)
+      ∙ product_map fs
 
-  sum_map : (ts : List (Item Atom)) → sum_of_magnitudes (map (λ t. record { atom = atom_magnitude s v t.atom; coefficient = t.coefficient }) ts) ≡ terms_magnitude s v ts
+  sum_map : (ts : List (Item Atom))
+      → sum_of_magnitudes (map (λ t. record { atom = atom_magnitude s v t.atom; coefficient = t.coefficient }) ts) ≡ terms_magnitude s v ts
   sum_map [] = refl
   sum_map (t ∷ ts) = ap (λ x. unsigned_abs t.coefficient * atom_magnitude s v t.atom + x) (sum_map ts)
 
@@ -81,5 +85,6 @@ stop-times p m r l =
     back : (p m r : ℕ) → m * (p * r) ≡ p * (m * r)
     back p m r = omega arith
 
-pub factors-next : (s v : List ℕ) (fs : List Atom) (at : ℕ) (x : Atom) → at < length fs → x ≡ get_or fs at x → factors_magnitude s v (drop at fs) ≡ atom_magnitude s v x * factors_magnitude s v (drop (at + 1) fs)
+pub factors-next : (s v : List ℕ) (fs : List Atom) (at : ℕ) (x : Atom) → at < length fs → x ≡ get_or fs at x
+    → factors_magnitude s v (drop at fs) ≡ atom_magnitude s v x * factors_magnitude s v (drop (at + 1) fs)
 factors-next s v fs at x h e = ap (factors_magnitude s v) (drop-item fs at x h e)

@@ -66,7 +66,8 @@ module _ (s v maxima most : List ℕ) (ws : WithinMaxima s maxima) (wv : WithinM
       let dividend = h (sym (scoped-Div sizes vars i k) ∙ g) in
       omega (arith, ap unsigned_abs (value-Div s v i k), quotient-most (items_value s v i) k, dividend, mag-Div maxima most i k)
 
-  factors-most : (fs : List Atom) → Each AtomMost fs → atoms_scoped sizes vars fs ≡ true → unsigned_abs (factors_value s v fs) ≤ factors_magnitude maxima most fs
+  factors-most : (fs : List Atom) → Each AtomMost fs → atoms_scoped sizes vars fs ≡ true
+      → unsigned_abs (factors_value s v fs) ≤ factors_magnitude maxima most fs
   factors-most [] h g = omega arith
   factors-most (f ∷ fs) h g =
       let gs = and_parts (atom_scoped sizes vars f) (atoms_scoped sizes vars fs) g in
@@ -78,7 +79,8 @@ module _ (s v maxima most : List ℕ) (ws : WithinMaxima s maxima) (wv : WithinM
       let factors = factors-most fs h (sym (scope-Mul sizes vars fs) ∙ g) in
       omega (arith, ap unsigned_abs (value-Mul s v fs), factors, mag-Mul maxima most fs)
 
-  terms-most : (ts : List (Item Atom)) → EachTerm AtomMost ts → terms_scoped sizes vars ts ≡ true → unsigned_abs (terms_value s v ts) ≤ terms_magnitude maxima most ts
+  terms-most : (ts : List (Item Atom)) → EachTerm AtomMost ts → terms_scoped sizes vars ts ≡ true
+      → unsigned_abs (terms_value s v ts) ≤ terms_magnitude maxima most ts
   terms-most [] h g = omega arith
   terms-most (t ∷ ts) h g =
       let gs = and_parts (atom_scoped sizes vars t.atom) (terms_scoped sizes vars ts) g in

@@ -18,12 +18,15 @@ pub take-Less : (a : Item Atom) (as' bs : List (Item Atom)) → first_order (a �
 take-Less a as' [] e = absurd (cc)
 take-Less a as' (b ∷ bs) e = let f : atom_order a.atom b.atom ≡ Less = cc in ap (λ o. onto_by o a (merged as') b bs (onto a (merged as') bs)) f
 
-pub take-Greater : (as' : List (Item Atom)) (b : Item Atom) (bs : List (Item Atom)) → first_order as' (b ∷ bs) ≡ Some Greater → merged as' (b ∷ bs) ≡ b ∷ merged as' bs
+pub take-Greater : (as' : List (Item Atom)) (b : Item Atom) (bs : List (Item Atom)) → first_order as' (b ∷ bs) ≡ Some Greater
+    → merged as' (b ∷ bs) ≡ b ∷ merged as' bs
 take-Greater [] b bs e = absurd (cc)
 take-Greater (a ∷ as') b bs e = let f : atom_order a.atom b.atom ≡ Greater = cc in ap (λ o. onto_by o a (merged as') b bs (onto a (merged as') bs)) f
 
-pub take-Equal : (a b : Item Atom) (as' bs : List (Item Atom)) → first_order (a ∷ as') (b ∷ bs) ≡ Some Equal → merged (a ∷ as') (b ∷ bs) ≡ combined a b [] ++ merged as' bs
-take-Equal a b as' bs e = let f : atom_order a.atom b.atom ≡ Equal = cc in ap (λ o. onto_by o a (merged as') b bs (onto a (merged as') bs)) f ∙ combined-append a b (merged as' bs)
+pub take-Equal : (a b : Item Atom) (as' bs : List (Item Atom)) → first_order (a ∷ as') (b ∷ bs) ≡ Some Equal
+    → merged (a ∷ as') (b ∷ bs) ≡ combined a b [] ++ merged as' bs
+take-Equal a b as' bs e = let f : atom_order a.atom b.atom ≡ Equal = cc in ap (λ o. onto_by o a (merged as') b bs (onto a (merged as') bs)) f
+    ∙ combined-append a b (merged as' bs)
 
 merged-nil : (as' : List (Item Atom)) → merged as' [] ≡ as'
 merged-nil [] = refl

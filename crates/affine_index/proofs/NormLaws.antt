@@ -53,7 +53,8 @@ module _ (k : ℕ) (h : 0 < k) where
   item_if-parts true t rest = omega arith
   item_if-parts false t rest = omega arith
 
-  onto-parts : (a : Item Atom) (as' bs : List (Item Atom)) → ((cs : List (Item Atom)) → parts (merged as' cs) ≤ parts as' + parts cs) → parts (onto a (merged as') bs) ≤ begun k (unsigned_abs a.coefficient) + parts as' + parts bs
+  onto-parts : (a : Item Atom) (as' bs : List (Item Atom)) → ((cs : List (Item Atom)) → parts (merged as' cs) ≤ parts as' + parts cs)
+      → parts (onto a (merged as') bs) ≤ begun k (unsigned_abs a.coefficient) + parts as' + parts bs
   onto-parts a as' [] f = omega (arith, f [])
   onto-parts a as' (b ∷ bs) f = by_order (atom_order a.atom b.atom) (onto-parts a as' bs f)
     where
@@ -65,8 +66,10 @@ module _ (k : ℕ) (h : 0 < k) where
           omega (
             arith,
             f bs,
-            item_if-parts (int_eq (a.coefficient +ℤ b.coefficient) (pos 0)) (record { atom = a.atom; coefficient = a.coefficient +ℤ b.coefficient }) (merged as' bs),
-            begun-sum k (unsigned_abs a.coefficient) (unsigned_abs b.coefficient) (unsigned_abs (a.coefficient +ℤ b.coefficient)) h (abs-sum a.coefficient b.coefficient),
+            item_if-parts (int_eq (a.coefficient +ℤ b.coefficient) (pos 0)) (record { atom = a.atom; coefficient = a.coefficient +ℤ b.coefficient })
+                (merged as' bs),
+            begun-sum k (unsigned_abs a.coefficient) (unsigned_abs b.coefficient) (unsigned_abs (a.coefficient +ℤ b.coefficient)) h
+                (abs-sum a.coefficient b.coefficient),
           )
 
   pub merged-parts : (as' bs : List (Item Atom)) → parts (merged as' bs) ≤ parts as' + parts bs
@@ -74,10 +77,12 @@ module _ (k : ℕ) (h : 0 < k) where
   merged-parts (a ∷ as') bs = onto-parts a as' bs (merged-parts as')
 
   pub sum-size : (a b : Items) → size (sum_of a b) ≤ size a + size b
-  sum-size a b = omega (arith, merged-parts a.terms b.terms, begun-sum k (unsigned_abs a.constant) (unsigned_abs b.constant) (unsigned_abs (a.constant +ℤ b.constant)) h (abs-sum a.constant b.constant))
+  sum-size a b = omega (arith, merged-parts a.terms b.terms,
+      begun-sum k (unsigned_abs a.constant) (unsigned_abs b.constant) (unsigned_abs (a.constant +ℤ b.constant)) h (abs-sum a.constant b.constant))
 
   begun-times : (c d : ℤ) → unsigned_abs c ≤ k → begun k (unsigned_abs (c *ℤ d)) ≤ unsigned_abs d
-  begun-times c d p = begun-least k (unsigned_abs (c *ℤ d)) (unsigned_abs d) h (omega (arith, unsigned_abs-mul c d, times-most (unsigned_abs c) k (unsigned_abs d) p))
+  begun-times c d p = begun-least k (unsigned_abs (c *ℤ d)) (unsigned_abs d) h
+      (omega (arith, unsigned_abs-mul c d, times-most (unsigned_abs c) k (unsigned_abs d) p))
     where
       times-most : (a b c : ℕ) → a ≤ b → a * c ≤ b * c
       times-most a b c p = grind arith
@@ -154,14 +159,16 @@ each_norm (t ∷ ts) = unsigned_abs t.coefficient * norm t.atom + each_norm ts
 
 pub add_up-norm : (ts : List (Item Items)) (start : Items) → norm (add_up ts start) ≤ norm start + each_norm ts
 add_up-norm [] start = omega arith
-add_up-norm (t ∷ ts) start = omega (arith, add_up-norm ts (sum_of start (scaled t.coefficient t.atom)), sum-norm start (scaled t.coefficient t.atom), scaled-norm t.coefficient t.atom)
+add_up-norm (t ∷ ts) start = omega
+    (arith, add_up-norm ts (sum_of start (scaled t.coefficient t.atom)), sum-norm start (scaled t.coefficient t.atom), scaled-norm t.coefficient t.atom)
 
 atom_products-norm : (x : Atom) (ts : List (Item Atom)) → each_norm (atom_products x ts) ≡ terms_norm ts
 atom_products-norm x [] = refl
 atom_products-norm x (t ∷ ts) = omega (arith, atom_products-norm x ts, atom-norm (atom_product x t.atom))
 
 pub atom_times-norm : (x : Atom) (b : Items) → norm (atom_times x b) ≤ norm b
-atom_times-norm x b = omega (arith, add_up-norm (atom_products x b.terms) (scaled b.constant (of_atom x)), atom_products-norm x b.terms, scaled-norm b.constant (of_atom x), atom-norm x)
+atom_times-norm x b = omega (arith, add_up-norm (atom_products x b.terms) (scaled b.constant (of_atom x)), atom_products-norm x b.terms,
+    scaled-norm b.constant (of_atom x), atom-norm x)
 
 times-most : (c m n : ℕ) → m ≤ n → c * m ≤ c * n
 times-most c m n p = grind arith
@@ -181,7 +188,8 @@ quotient_atom-norm (t ∷ ts) c k = omega arith
 -- the quotient has at most as many ones as the form has k's, and one
 pub quotient-size : (i : Items) (k : ℕ) (h : 0 < k) → norm (quotient_of i k) ≤ size k h i + 1
 quotient-size i k h =
-    omega (arith, sum-norm (whole_part i k) (quotient_atom (rest_part i k).terms (rest_part i k).constant k), whole_part-norm k h i, quotient_atom-norm (rest_part i k).terms (rest_part i k).constant k)
+    omega (arith, sum-norm (whole_part i k) (quotient_atom (rest_part i k).terms (rest_part i k).constant k), whole_part-norm k h i,
+        quotient_atom-norm (rest_part i k).terms (rest_part i k).constant k)
 
 begun-most : (k n : ℕ) → 0 < k → begun k n ≤ n
 begun-most k n h = begun-least k n n h (more k n h)

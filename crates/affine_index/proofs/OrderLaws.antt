@@ -61,5 +61,6 @@ terms-end (suc i) (a ∷ as') (b ∷ bs) p q e = terms-end i as' bs (omega arith
 pub ruleset order_laws = (order-items, order-factors)
 
 pub order-Mul : (fs gs : List Atom) → atom_order (Mul fs) (Mul gs) ≡ factors_order fs gs
-order-Mul fs gs = ap (λ f. f (Mul gs)) (ap atom_order (sym (rolls-Mul fs)) ∙ fold-roll-Atom (Atom → Ordering) (Items → Ordering) atom_against items_against (Atom-F.Mul fs))
+order-Mul fs gs = ap (λ f. f (Mul gs))
+    (ap atom_order (sym (rolls-Mul fs)) ∙ fold-roll-Atom (Atom → Ordering) (Items → Ordering) atom_against items_against (Atom-F.Mul fs))
     ∙ ap (against (Atom-F.Mul (map atom_order fs))) (ap out-Atom (sym (rolls-Mul gs)) ∙ out-roll-Atom (Atom-F.Mul gs)) ∙ factors_map fs gs

@@ -68,7 +68,8 @@ module _ (f : ℤ → ℤ) where
   chosen [] = []
   chosen (t ∷ ts) = item_of t.atom (f t.coefficient) (chosen ts)
 
-  item-each : (Q : Item Atom → Type 0) (z : Bool) (t : Item Atom) (rest : List (Item Atom)) → (z ≡ false → Q t) → EachItem Q rest → EachItem Q (item_if z t rest)
+  item-each : (Q : Item Atom → Type 0) (z : Bool) (t : Item Atom) (rest : List (Item Atom)) → (z ≡ false → Q t) → EachItem Q rest
+      → EachItem Q (item_if z t rest)
   item-each Q true t rest q h = h
   item-each Q false t rest q h = (q refl, h)
 
@@ -82,11 +83,13 @@ module _ (f : ℤ → ℤ) where
 
   chosen-sorted : (ts : List (Item Atom)) → Sorted ts → Sorted (chosen ts)
   chosen-sorted [] s = tt
-  chosen-sorted (t ∷ ts) s = item-sorted (int_eq (f t.coefficient) (pos 0)) (record { atom = t.atom; coefficient = f t.coefficient }) (chosen ts) (chosen-before t.atom ts s.0) (chosen-sorted ts s.1)
+  chosen-sorted (t ∷ ts) s = item-sorted (int_eq (f t.coefficient) (pos 0)) (record { atom = t.atom; coefficient = f t.coefficient }) (chosen ts)
+      (chosen-before t.atom ts s.0) (chosen-sorted ts s.1)
 
   chosen-good : (ts : List (Item Atom)) → EachItem GoodItem ts → EachItem GoodItem (chosen ts)
   chosen-good [] h = tt
-  chosen-good (t ∷ ts) h = item-each GoodItem (int_eq (f t.coefficient) (pos 0)) (record { atom = t.atom; coefficient = f t.coefficient }) (chosen ts) (λ n. (h.0.0, n)) (chosen-good ts h.1)
+  chosen-good (t ∷ ts) h = item-each GoodItem (int_eq (f t.coefficient) (pos 0)) (record { atom = t.atom; coefficient = f t.coefficient }) (chosen ts)
+      (λ n. (h.0.0, n)) (chosen-good ts h.1)
 
 whole-chosen : (k : ℕ) (ts : List (Item Atom)) → whole_terms k ts ≡ chosen (λ c. int_div_euclid c (pos k)) ts
 whole-chosen k [] = refl
@@ -109,13 +112,15 @@ pub rest-below : (c : ℤ) (k : ℕ) → 0 < k → is_remainder k (int_rem_eucli
 rest-below (pos n) k h = grind arith
 rest-below (negsuc n) k h = grind arith
 
-item-remainder : (k : ℕ) (z : Bool) (t : Item Atom) (rest : List (Item Atom)) → is_remainder k t.coefficient ≡ true → all_remainders k rest ≡ true → all_remainders k (item_if z t rest) ≡ true
+item-remainder : (k : ℕ) (z : Bool) (t : Item Atom) (rest : List (Item Atom)) → is_remainder k t.coefficient ≡ true → all_remainders k rest ≡ true
+    → all_remainders k (item_if z t rest) ≡ true
 item-remainder k true t rest q h = h
 item-remainder k false t rest q h = and_from _ _ q h
 
 pub rest-remainders : (k : ℕ) (ts : List (Item Atom)) → 0 < k → all_remainders k (rest_terms k ts) ≡ true
 rest-remainders k [] h = refl
-rest-remainders k (t ∷ ts) h = item-remainder k (int_eq (int_rem_euclid t.coefficient (pos k)) (pos 0)) (record { atom = t.atom; coefficient = int_rem_euclid t.coefficient (pos k) }) (rest_terms k ts) (rest-below t.coefficient k h) (rest-remainders k ts h)
+rest-remainders k (t ∷ ts) h = item-remainder k (int_eq (int_rem_euclid t.coefficient (pos k)) (pos 0))
+    (record { atom = t.atom; coefficient = int_rem_euclid t.coefficient (pos k) }) (rest_terms k ts) (rest-below t.coefficient k h) (rest-remainders k ts h)
 
 -- a remainder by 1 is 0
 by_one : (c : ℤ) → is_remainder 1 c ≡ true → int_eq c (pos 0) ≡ true

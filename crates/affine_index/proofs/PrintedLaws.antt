@@ -1,5 +1,6 @@
 -- Where the magnitude is within the limit, no partial result of the text passes it, also from a sum so far where both are within the limit together.
-use Rattle.std.proofs.Common.{◌≡◌, ℕ, zero, suc, ◌+◌, ◌*◌, ◌<◌, ◌≤◌, List, [], ◌∷◌, length, map, refl, ap, sym, ◌∙◌, arith, Bool, true, false, nat_le, Option, Some}
+use Rattle.std.proofs.Common.{◌≡◌, ℕ, zero, suc, ◌+◌, ◌*◌, ◌<◌, ◌≤◌, List, [], ◌∷◌, length, map, refl, ap, sym, ◌∙◌, arith, Bool, true, false, nat_le, Option}
+use Rattle.std.proofs.Common.{Some}
 use Rattle.std.specs.Prelude.{ℤ, pos, negsuc, ◌+ℤ◌, ◌-ℤ◌, ◌*ℤ◌, slice_index, if◌then◌else◌}
 use Rattle.std.specs.Option.{option_and_then}
 use Rattle.std.specs.Int.{int_div_euclid}
@@ -11,7 +12,8 @@ use Rattle.std.proofs.Math.IntN.{zero-*ℤ}
 use Rattle.affine_index.specs.Limited.{all_firsts, all_true, atom_scoped, items_scoped}
 use Rattle.affine_index.specs.Magnitude.{atom_magnitude, factors_magnitude, magnitude, terms_magnitude}
 use Rattle.affine_index.specs.Normal.{is_ordered}
-use Rattle.affine_index.specs.Printed.{WithinMaxima, add_constant, add_positive, is_positive, minus, plus, printed_items_step, printed_step, printed_times, printed_value, take_constant, take_others, through_all, within}
+use Rattle.affine_index.specs.Printed.{WithinMaxima, add_constant, add_positive, is_positive, minus, plus, printed_items_step, printed_step, printed_times}
+use Rattle.affine_index.specs.Printed.{printed_value, take_constant, take_others, through_all, within}
 use Rattle.affine_index.specs.Value.{atom_value, items_value, terms_value}
 use Rattle.affine_index.proofs.BoundLaws.{UpTo, atom_up}
 use Rattle.affine_index.proofs.Factors.{Ordered, mul_parts}
@@ -63,32 +65,40 @@ module _ (limit : ℕ) (s v maxima most : List ℕ) (ws : WithinMaxima s maxima)
   times = printed_times limit s v
 
   times-Size : (k : ℕ) (c : ℤ) → times (Size k) c ≡ within limit (c *ℤ pos (slice_index s k))
-  times-Size k c = ap (λ a. times a c) (sym (rolls-Size k)) ∙ ap (λ f. f c) (fold-roll-Atom (ℤ → Option ℤ) (Option ℤ) (printed_step limit s v) (printed_items_step limit s v) (Atom-F.Size k))
+  times-Size k c = ap (λ a. times a c) (sym (rolls-Size k))
+      ∙ ap (λ f. f c) (fold-roll-Atom (ℤ → Option ℤ) (Option ℤ) (printed_step limit s v) (printed_items_step limit s v) (Atom-F.Size k))
 
   times-Var : (k : ℕ) (c : ℤ) → times (Var k) c ≡ within limit (c *ℤ pos (slice_index v k))
-  times-Var k c = ap (λ a. times a c) (sym (rolls-Var k)) ∙ ap (λ f. f c) (fold-roll-Atom (ℤ → Option ℤ) (Option ℤ) (printed_step limit s v) (printed_items_step limit s v) (Atom-F.Var k))
+  times-Var k c = ap (λ a. times a c) (sym (rolls-Var k))
+      ∙ ap (λ f. f c) (fold-roll-Atom (ℤ → Option ℤ) (Option ℤ) (printed_step limit s v) (printed_items_step limit s v) (Atom-F.Var k))
 
   times-Div : (i : Items) (k : ℕ) (c : ℤ) → times (Div i k) c ≡ option_and_then (λ w. within limit (c *ℤ int_div_euclid w (pos k))) (printed_value limit s v i)
-  times-Div i k c = ap (λ a. times a c) (sym (rolls-Div i k)) ∙ ap (λ f. f c) (fold-roll-Atom (ℤ → Option ℤ) (Option ℤ) (printed_step limit s v) (printed_items_step limit s v) (Atom-F.Div i k))
+  times-Div i k c = ap (λ a. times a c) (sym (rolls-Div i k))
+      ∙ ap (λ f. f c) (fold-roll-Atom (ℤ → Option ℤ) (Option ℤ) (printed_step limit s v) (printed_items_step limit s v) (Atom-F.Div i k))
 
   times-Mul : (fs : List Atom) (c : ℤ) → times (Mul fs) c ≡ through_all limit (map times fs) c
-  times-Mul fs c = ap (λ a. times a c) (sym (rolls-Mul fs)) ∙ ap (λ f. f c) (fold-roll-Atom (ℤ → Option ℤ) (Option ℤ) (printed_step limit s v) (printed_items_step limit s v) (Atom-F.Mul fs))
+  times-Mul fs c = ap (λ a. times a c) (sym (rolls-Mul fs))
+      ∙ ap (λ f. f c) (fold-roll-Atom (ℤ → Option ℤ) (Option ℤ) (printed_step limit s v) (printed_items_step limit s v) (Atom-F.Mul fs))
 
   -- an item of which the atom takes its number through its factors
   abbrev pub printed_term : Item Atom → Item (ℤ → Option ℤ)
   printed_term t = record { atom = times t.atom; coefficient = t.coefficient }
 
   abbrev AtomPrints : Atom → Type 0
-  AtomPrints a = Ordered a → Scoped a → (c : ℤ) (b : ℕ) → 1 ≤ b → unsigned_abs c ≤ b → b * atom_magnitude maxima most a ≤ limit → times a c ≡ Some (c *ℤ atom_value s v a)
+  AtomPrints a = Ordered a → Scoped a → (c : ℤ) (b : ℕ) → 1 ≤ b → unsigned_abs c ≤ b → b * atom_magnitude maxima most a ≤ limit
+      → times a c ≡ Some (c *ℤ atom_value s v a)
 
   abbrev FormPrints : Items → Type 0
-  FormPrints i = is_ordered i ≡ true → items_scoped (length maxima) (length most) i ≡ true → magnitude maxima most i ≤ limit → printed_value limit s v i ≡ Some (items_value s v i)
+  FormPrints i = is_ordered i ≡ true → items_scoped (length maxima) (length most) i ≡ true → magnitude maxima most i ≤ limit
+      → printed_value limit s v i ≡ Some (items_value s v i)
 
   up : (a : Atom) → Ordered a → Scoped a → UpTo (atom_value s v a) (atom_magnitude maxima most a)
   up = atom_up s v maxima most ws wv
 
-  plain : (a : Atom) (c : ℤ) (b : ℕ) → Ordered a → Scoped a → unsigned_abs c ≤ b → b * atom_magnitude maxima most a ≤ limit → within limit (c *ℤ atom_value s v a) ≡ Some (c *ℤ atom_value s v a)
-  plain a c b o g p q = within-is limit (c *ℤ atom_value s v a) (omega (arith, product-size c (atom_value s v a) b (atom_magnitude maxima most a) p (up a o g), q))
+  plain : (a : Atom) (c : ℤ) (b : ℕ) → Ordered a → Scoped a → unsigned_abs c ≤ b → b * atom_magnitude maxima most a ≤ limit
+      → within limit (c *ℤ atom_value s v a) ≡ Some (c *ℤ atom_value s v a)
+  plain a c b o g p q = within-is limit (c *ℤ atom_value s v a)
+      (omega (arith, product-size c (atom_value s v a) b (atom_magnitude maxima most a) p (up a o g), q))
 
   size_prints : (k : ℕ) → AtomPrints (Size k)
   size_prints k o g c b one p q = times-Size k c ∙ ap (λ x. within limit (c *ℤ x)) (sym (value-Size s v k)) ∙ plain (Size k) c b o g p q
@@ -100,7 +110,8 @@ module _ (limit : ℕ) (s v maxima most : List ℕ) (ws : WithinMaxima s maxima)
   div_prints i k h o g c b one p q =
       let inside : magnitude maxima most i ≤ limit = omega (arith, alone b (atom_magnitude maxima most (Div i k)) one, q, mag-Div maxima most i k) in
       times-Div i k c
-      ∙ ap (option_and_then (λ w. within limit (c *ℤ int_div_euclid w (pos k)))) (h (ordered-Div i k o).1 (sym (scoped-Div (length maxima) (length most) i k) ∙ g) inside)
+      ∙ ap (option_and_then (λ w. within limit (c *ℤ int_div_euclid w (pos k))))
+          (h (ordered-Div i k o).1 (sym (scoped-Div (length maxima) (length most) i k) ∙ g) inside)
       ∙ ap (λ x. within limit (c *ℤ x)) (sym (value-Div s v i k)) ∙ plain (Div i k) c b o g p q
 
   factors-one : (fs : List Atom) → Each Ordered fs → all_true (map (atom_scoped (length maxima) (length most)) fs) ≡ true → 1 ≤ factors_magnitude maxima most fs
@@ -109,7 +120,8 @@ module _ (limit : ℕ) (s v maxima most : List ℕ) (ws : WithinMaxima s maxima)
       let gs = and_parts (atom_scoped (length maxima) (length most) f) (all_true (map (atom_scoped (length maxima) (length most)) fs)) g in
       least (atom_magnitude maxima most f) (factors_magnitude maxima most fs) (up f o.0 gs.0).positive (factors-one fs o.1 gs.1)
 
-  through-prints : (fs : List Atom) → Each AtomPrints fs → Each Ordered fs → all_true (map (atom_scoped (length maxima) (length most)) fs) ≡ true → (c : ℤ) (b : ℕ) → 1 ≤ b → unsigned_abs c ≤ b → b * factors_magnitude maxima most fs ≤ limit
+  through-prints : (fs : List Atom) → Each AtomPrints fs → Each Ordered fs → all_true (map (atom_scoped (length maxima) (length most)) fs) ≡ true
+      → (c : ℤ) (b : ℕ) → 1 ≤ b → unsigned_abs c ≤ b → b * factors_magnitude maxima most fs ≤ limit
       → through_all limit (map times fs) c ≡ Some (c *ℤ factors_value s v fs)
   through-prints [] h o g c b one p q = ap Some (back c)
     where
@@ -129,7 +141,8 @@ module _ (limit : ℕ) (s v maxima most : List ℕ) (ws : WithinMaxima s maxima)
   mul_prints : (fs : List Atom) → Each AtomPrints fs → AtomPrints (Mul fs)
   mul_prints fs h o g c b one p q =
       times-Mul fs c
-      ∙ through-prints fs h (mul_parts fs o).good.ordered (sym (scoped-Mul (length maxima) (length most) fs) ∙ g) c b one p (omega (arith, ap (λ n. b * n) (mag-Mul maxima most fs), q))
+      ∙ through-prints fs h (mul_parts fs o).good.ordered (sym (scoped-Mul (length maxima) (length most) fs) ∙ g) c b one p
+          (omega (arith, ap (λ n. b * n) (mag-Mul maxima most fs), q))
       ∙ ap (λ x. Some (c *ℤ x)) (sym (value-Mul s v fs))
 
   -- of the items with positive coefficients, and of the others: the sum of the values, and of the magnitudes
@@ -191,7 +204,8 @@ module _ (limit : ℕ) (s v maxima most : List ℕ) (ws : WithinMaxima s maxima)
   chosen-size false z n h = omega arith
 
   item-most : (t : Item Atom) → Ordered t.atom → Scoped t.atom → unsigned_abs (item t) ≤ item_size t
-  item-most t o g = product-size t.coefficient (atom_value s v t.atom) (unsigned_abs t.coefficient) (atom_magnitude maxima most t.atom) (omega arith) (up t.atom o g)
+  item-most t o g = product-size t.coefficient (atom_value s v t.atom) (unsigned_abs t.coefficient) (atom_magnitude maxima most t.atom) (omega arith)
+      (up t.atom o g)
 
   positives-most : (ts : List (Item Atom)) → EachItem GoodItem ts → ScopedTerms ts → unsigned_abs (positives ts) ≤ positives_size ts
   positives-most [] o g = omega arith
@@ -223,10 +237,12 @@ module _ (limit : ℕ) (s v maxima most : List ℕ) (ws : WithinMaxima s maxima)
   other-is (negsuc n) h = omega (arith, ints)
 
   -- an item's size times its atom
-  item-prints : (t : Item Atom) → AtomPrints t.atom → GoodItem t → Scoped t.atom → item_size t ≤ limit → times t.atom (pos (unsigned_abs t.coefficient)) ≡ Some (pos (unsigned_abs t.coefficient) *ℤ atom_value s v t.atom)
+  item-prints : (t : Item Atom) → AtomPrints t.atom → GoodItem t → Scoped t.atom → item_size t ≤ limit
+      → times t.atom (pos (unsigned_abs t.coefficient)) ≡ Some (pos (unsigned_abs t.coefficient) *ℤ atom_value s v t.atom)
   item-prints t h o g q = h o.0 g (pos (unsigned_abs t.coefficient)) (unsigned_abs t.coefficient) (nonzero t.coefficient o.1) (omega arith) q
 
-  add-step : (t : Item Atom) (total : ℤ) (b : Bool) → is_positive t.coefficient ≡ b → AtomPrints t.atom → GoodItem t → Scoped t.atom → unsigned_abs total + counted b (item_size t) ≤ limit
+  add-step : (t : Item Atom) (total : ℤ) (b : Bool) → is_positive t.coefficient ≡ b → AtomPrints t.atom → GoodItem t → Scoped t.atom
+      → unsigned_abs total + counted b (item_size t) ≤ limit
       → (if b then plus limit total (times t.atom (pos (unsigned_abs t.coefficient))) else Some total) ≡ Some (total +ℤ chosen b (item t))
   add-step t total true e h o g q =
       let p : item t ≡ pos (unsigned_abs t.coefficient) *ℤ atom_value s v t.atom = ap (λ c. c *ℤ atom_value s v t.atom) (positive-is t.coefficient e) in
@@ -237,7 +253,8 @@ module _ (limit : ℕ) (s v maxima most : List ℕ) (ws : WithinMaxima s maxima)
       same : (z : ℤ) → z ≡ z +ℤ pos 0
       same z = omega (arith, ints)
 
-  take-step : (t : Item Atom) (total : ℤ) (b : Bool) → is_positive t.coefficient ≡ b → AtomPrints t.atom → GoodItem t → Scoped t.atom → unsigned_abs total + counted (other b) (item_size t) ≤ limit
+  take-step : (t : Item Atom) (total : ℤ) (b : Bool) → is_positive t.coefficient ≡ b → AtomPrints t.atom → GoodItem t → Scoped t.atom
+      → unsigned_abs total + counted (other b) (item_size t) ≤ limit
       → (if b then Some total else minus limit total (times t.atom (pos (unsigned_abs t.coefficient)))) ≡ Some (total +ℤ chosen (other b) (item t))
   take-step t total true e h o g q = ap Some (same total)
     where
@@ -246,13 +263,15 @@ module _ (limit : ℕ) (s v maxima most : List ℕ) (ws : WithinMaxima s maxima)
   take-step t total false e h o g q =
       let x = atom_value s v t.atom in
       let z = pos (unsigned_abs t.coefficient) *ℤ x in
-      let opposite : item t +ℤ z ≡ pos 0 = sym (*ℤ_distrib t.coefficient (pos (unsigned_abs t.coefficient)) x) ∙ ap (λ c. c *ℤ x) (other-is t.coefficient e) ∙ zero-*ℤ x in
+      let opposite : item t +ℤ z ≡ pos 0 = sym (*ℤ_distrib t.coefficient (pos (unsigned_abs t.coefficient)) x) ∙ ap (λ c. c *ℤ x) (other-is t.coefficient e)
+          ∙ zero-*ℤ x in
       let turned : total -ℤ z ≡ total +ℤ item t = omega (arith, ints, opposite) in
       ap (minus limit total) (item-prints t h o g (omega (arith, q)))
       ∙ ap (within limit) turned
       ∙ within-is limit (total +ℤ item t) (omega (arith, abs-sum total (item t), item-most t o.0 g, q))
 
-  add-prints : (ts : List (Item Atom)) (total : ℤ) → EachTerm AtomPrints ts → EachItem GoodItem ts → ScopedTerms ts → unsigned_abs total + positives_size ts ≤ limit
+  add-prints : (ts : List (Item Atom)) (total : ℤ) → EachTerm AtomPrints ts → EachItem GoodItem ts → ScopedTerms ts
+      → unsigned_abs total + positives_size ts ≤ limit
       → add_positive limit (map printed_term ts) total ≡ Some (total +ℤ positives ts)
   add-prints [] total h o g q = ap Some (same total)
     where
@@ -269,7 +288,8 @@ module _ (limit : ℕ) (s v maxima most : List ℕ) (ws : WithinMaxima s maxima)
       again : (a b c : ℤ) → (a +ℤ b) +ℤ c ≡ a +ℤ (b +ℤ c)
       again a b c = omega (arith, ints)
 
-  take-prints : (ts : List (Item Atom)) (total : ℤ) → EachTerm AtomPrints ts → EachItem GoodItem ts → ScopedTerms ts → unsigned_abs total + others_size ts ≤ limit
+  take-prints : (ts : List (Item Atom)) (total : ℤ) → EachTerm AtomPrints ts → EachItem GoodItem ts → ScopedTerms ts
+      → unsigned_abs total + others_size ts ≤ limit
       → take_others limit (map printed_term ts) total ≡ Some (total +ℤ others ts)
   take-prints [] total h o g q = ap Some (same total)
     where
@@ -286,7 +306,8 @@ module _ (limit : ℕ) (s v maxima most : List ℕ) (ws : WithinMaxima s maxima)
       again : (a b c : ℤ) → (a +ℤ b) +ℤ c ≡ a +ℤ (b +ℤ c)
       again a b c = omega (arith, ints)
 
-  add-constant : (c total : ℤ) (b : Bool) → is_positive c ≡ b → unsigned_abs total + counted b (unsigned_abs c) ≤ limit → (if b then plus limit total (Some (pos (unsigned_abs c))) else Some total) ≡ Some (total +ℤ chosen b c)
+  add-constant : (c total : ℤ) (b : Bool) → is_positive c ≡ b → unsigned_abs total + counted b (unsigned_abs c) ≤ limit
+      → (if b then plus limit total (Some (pos (unsigned_abs c))) else Some total) ≡ Some (total +ℤ chosen b c)
   add-constant c total true e q =
       ap (λ z. within limit (total +ℤ z)) (sym (positive-is c e)) ∙ within-is limit (total +ℤ c) (omega (arith, abs-sum total c, q))
   add-constant c total false e q = ap Some (same total)
@@ -294,7 +315,8 @@ module _ (limit : ℕ) (s v maxima most : List ℕ) (ws : WithinMaxima s maxima)
       same : (z : ℤ) → z ≡ z +ℤ pos 0
       same z = omega (arith, ints)
 
-  take-constant : (c total : ℤ) (b : Bool) → is_positive c ≡ b → unsigned_abs total + counted (other b) (unsigned_abs c) ≤ limit → (if b then Some total else minus limit total (Some (pos (unsigned_abs c)))) ≡ Some (total +ℤ chosen (other b) c)
+  take-constant : (c total : ℤ) (b : Bool) → is_positive c ≡ b → unsigned_abs total + counted (other b) (unsigned_abs c) ≤ limit
+      → (if b then Some total else minus limit total (Some (pos (unsigned_abs c)))) ≡ Some (total +ℤ chosen (other b) c)
   take-constant c total true e q = ap Some (same total)
     where
       same : (z : ℤ) → z ≡ z +ℤ pos 0
@@ -307,11 +329,13 @@ module _ (limit : ℕ) (s v maxima most : List ℕ) (ws : WithinMaxima s maxima)
   abbrev pub printed_from : Items → ℤ → Option ℤ
   printed_from i u =
       option_and_then
-      (λ a. option_and_then (λ d. option_and_then (λ e. take_constant limit i.constant e) (take_others limit (map printed_term i.terms) d)) (add_constant limit i.constant a))
+      (λ a. option_and_then (λ d. option_and_then (λ e. take_constant limit i.constant e) (take_others limit (map printed_term i.terms) d))
+          (add_constant limit i.constant a))
       (add_positive limit (map printed_term i.terms) u)
 
   abbrev PrintsFrom : Items → ℤ → Type 0
-  PrintsFrom i u = is_ordered i ≡ true → items_scoped (length maxima) (length most) i ≡ true → unsigned_abs u + magnitude maxima most i ≤ limit → printed_from i u ≡ Some (u +ℤ items_value s v i)
+  PrintsFrom i u = is_ordered i ≡ true → items_scoped (length maxima) (length most) i ≡ true → unsigned_abs u + magnitude maxima most i ≤ limit
+      → printed_from i u ≡ Some (u +ℤ items_value s v i)
 
   terms_print : (ts : List (Item Atom)) (c u : ℤ) → EachTerm AtomPrints ts → PrintsFrom (record { terms = ts; constant = c }) u
   terms_print ts c u h o g q =
@@ -331,9 +355,11 @@ module _ (limit : ℕ) (s v maxima most : List ℕ) (ws : WithinMaxima s maxima)
       let size-x = chosen-size b c (unsigned_abs c) (omega arith) in
       let size-y = others-most ts goods sc in
       let size-px = abs-sum p x in
-      ap (option_and_then (λ a. option_and_then (λ d. option_and_then (λ e. take_constant limit c e) (take_others limit (map printed_term ts) d)) (add_constant limit c a)))
+      ap (option_and_then (λ a. option_and_then (λ d. option_and_then (λ e. take_constant limit c e) (take_others limit (map printed_term ts) d))
+          (add_constant limit c a)))
       (add-prints ts u h goods sc (omega (arith, room)))
-      ∙ ap (option_and_then (λ d. option_and_then (λ e. take_constant limit c e) (take_others limit (map printed_term ts) d))) (add-constant c p b refl (omega (arith, room, size-p)))
+      ∙ ap (option_and_then (λ d. option_and_then (λ e. take_constant limit c e) (take_others limit (map printed_term ts) d)))
+          (add-constant c p b refl (omega (arith, room, size-p)))
       ∙ ap (option_and_then (λ e. take_constant limit c e)) (take-prints ts (p +ℤ x) h goods sc (omega (arith, room, size-p, size-x, size-px)))
       ∙ take-constant c ((p +ℤ x) +ℤ y) b refl (omega (arith, room, size-p, size-x, size-y, size-px, abs-sum (p +ℤ x) y))
       ∙ ap Some (omega (arith, ints, both_values ts, halves b c, items_value-is s v i))

@@ -34,10 +34,12 @@ factors-end i j a b (inr h) = rw (drop_all j b h) (factors-nil (drop i a) ∙ sy
 pub ruleset product_laws = (factors-Less, factors-Equal, factors-Greater, factors-Size, factors-Var, factors-Div, factors-Mul)
 
 pub atom_times-step : (x : Atom) (ts : List (Item Atom)) (at : ℕ) (t : Item Atom) (start : Items) → at < length ts → t ≡ get_or ts at t
-    → add_up (atom_products x (drop (at + 1) ts)) (sum_of start (scaled t.coefficient (of_atom (atom_product x t.atom)))) ≡ add_up (atom_products x (drop at ts)) start
+    → add_up (atom_products x (drop (at + 1) ts)) (sum_of start (scaled t.coefficient (of_atom (atom_product x t.atom)))) ≡ add_up
+        (atom_products x (drop at ts)) start
 atom_times-step x ts at t start h e = ap (λ us. add_up (atom_products x us) start) (sym (drop-item ts at t h e))
 
-pub norm-step : (ts : List (Item Atom)) (at : ℕ) (t : Item Atom) → at < length ts → t ≡ get_or ts at t → terms_norm (drop at ts) ≡ unsigned_abs t.coefficient + terms_norm (drop (at + 1) ts)
+pub norm-step : (ts : List (Item Atom)) (at : ℕ) (t : Item Atom) → at < length ts → t ≡ get_or ts at t
+    → terms_norm (drop at ts) ≡ unsigned_abs t.coefficient + terms_norm (drop (at + 1) ts)
 norm-step ts at t h e = ap terms_norm (drop-item ts at t h e)
 
 pub product-step : (ts : List (Item Atom)) (b : Items) (at : ℕ) (t : Item Atom) (start : Items) → at < length ts → t ≡ get_or ts at t

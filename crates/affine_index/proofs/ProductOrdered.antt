@@ -52,12 +52,16 @@ sum-free a b p q = merged-each (λ t. NoVar t.atom) (λ x y px py n. px) a.terms
 
 pub add_up-free : (ts : List (Item Items)) (start : Items) → EachForm Free ts → Free start → Free (add_up ts start)
 add_up-free [] start h s = s
-add_up-free (t ∷ ts) start h s = add_up-free ts (sum_of start (scaled t.coefficient t.atom)) h.1 (sum-free start (scaled t.coefficient t.atom) s (scaled_if-free (int_eq t.coefficient (pos 0)) t.coefficient t.atom h.0))
+add_up-free (t ∷ ts) start h s =
+    add_up-free ts (sum_of start (scaled t.coefficient t.atom)) h.1
+    (sum-free start (scaled t.coefficient t.atom) s (scaled_if-free (int_eq t.coefficient (pos 0)) t.coefficient t.atom h.0))
 
-pub add_up-ordered : (ts : List (Item Items)) (start : Items) → EachForm (λ i. is_ordered i ≡ true) ts → is_ordered start ≡ true → is_ordered (add_up ts start) ≡ true
+pub add_up-ordered : (ts : List (Item Items)) (start : Items) → EachForm (λ i. is_ordered i ≡ true) ts → is_ordered start ≡ true
+    → is_ordered (add_up ts start) ≡ true
 add_up-ordered [] start h s = s
 add_up-ordered (t ∷ ts) start h s =
-    add_up-ordered ts (sum_of start (scaled t.coefficient t.atom)) h.1 (sum-ordered start (scaled t.coefficient t.atom) s (scaled-ordered t.coefficient t.atom h.0))
+    add_up-ordered ts (sum_of start (scaled t.coefficient t.atom)) h.1
+        (sum-ordered start (scaled t.coefficient t.atom) s (scaled-ordered t.coefficient t.atom h.0))
 
 -- products of terms that do not both hold an index variable
 abbrev pub Apart : Items → Items → Type 0
@@ -82,7 +86,8 @@ atoms-ordered : (ts : List (Item Atom)) → EachItem GoodItem ts → OrderedAtom
 atoms-ordered [] h = tt
 atoms-ordered (t ∷ ts) h = (h.0.0, atoms-ordered ts h.1)
 
-atom_products-ordered : (x : Atom) (ts : List (Item Atom)) → Ordered x → OrderedAtoms ts → ApartTerms x ts → EachForm (λ i. is_ordered i ≡ true) (atom_products x ts)
+atom_products-ordered : (x : Atom) (ts : List (Item Atom)) → Ordered x → OrderedAtoms ts → ApartTerms x ts
+    → EachForm (λ i. is_ordered i ≡ true) (atom_products x ts)
 atom_products-ordered x [] o h p = tt
 atom_products-ordered x (t ∷ ts) o h p =
     (atom-ordered (atom_product x t.atom) (product-ordered x t.atom o h.0 (first_apart x t ts p)), atom_products-ordered x ts o h.1 (rest_apart x t ts p))
@@ -100,25 +105,30 @@ apart_rest : (t : Item Atom) (ts us : List (Item Atom)) → FreeTerms (t ∷ ts)
 apart_rest t ts us (inl n) = inl n.1
 apart_rest t ts us (inr n) = inr n
 
-term_products-ordered : (ts : List (Item Atom)) (b : Items) → OrderedAtoms ts → is_ordered b ≡ true → FreeTerms ts ⊎ Free b → EachForm (λ i. is_ordered i ≡ true) (term_products ts b)
+term_products-ordered : (ts : List (Item Atom)) (b : Items) → OrderedAtoms ts → is_ordered b ≡ true → FreeTerms ts ⊎ Free b
+    → EachForm (λ i. is_ordered i ≡ true) (term_products ts b)
 term_products-ordered [] b h o p = tt
-term_products-ordered (t ∷ ts) b h o p = (atom_times-ordered t.atom b h.0 o (apart_first t ts b.terms p), term_products-ordered ts b h.1 o (apart_rest t ts b.terms p))
+term_products-ordered (t ∷ ts) b h o p =
+    (atom_times-ordered t.atom b h.0 o (apart_first t ts b.terms p), term_products-ordered ts b h.1 o (apart_rest t ts b.terms p))
 
 -- the product of two normal forms of which one holds no index variable
 pub products-ordered : (a b : Items) → is_ordered a ≡ true → is_ordered b ≡ true → Apart a b → is_ordered (product_of a b) ≡ true
 products-ordered a b oa ob p =
-    add_up-ordered (term_products a.terms b) (scaled a.constant b) (term_products-ordered a.terms b (atoms-ordered a.terms (ordered-terms a oa).1) ob p) (scaled-ordered a.constant b ob)
+    add_up-ordered (term_products a.terms b) (scaled a.constant b) (term_products-ordered a.terms b (atoms-ordered a.terms (ordered-terms a oa).1) ob p)
+        (scaled-ordered a.constant b ob)
 
 atom_products-free : (x : Atom) (ts : List (Item Atom)) → NoVar x → FreeTerms ts → EachForm Free (atom_products x ts)
 atom_products-free x [] n h = tt
 atom_products-free x (t ∷ ts) n h = ((no_var-product x t.atom n h.0, tt), atom_products-free x ts n h.1)
 
 atom_times-free : (x : Atom) (b : Items) → NoVar x → Free b → Free (atom_times x b)
-atom_times-free x b n h = add_up-free (atom_products x b.terms) (scaled b.constant (of_atom x)) (atom_products-free x b.terms n h) (scaled_if-free (int_eq b.constant (pos 0)) b.constant (of_atom x) (n, tt))
+atom_times-free x b n h = add_up-free (atom_products x b.terms) (scaled b.constant (of_atom x)) (atom_products-free x b.terms n h)
+    (scaled_if-free (int_eq b.constant (pos 0)) b.constant (of_atom x) (n, tt))
 
 term_products-free : (ts : List (Item Atom)) (b : Items) → FreeTerms ts → Free b → EachForm Free (term_products ts b)
 term_products-free [] b h n = tt
 term_products-free (t ∷ ts) b h n = (atom_times-free t.atom b h.0 n, term_products-free ts b h.1 n)
 
 pub product-free : (a b : Items) → Free a → Free b → Free (product_of a b)
-product-free a b p q = add_up-free (term_products a.terms b) (scaled a.constant b) (term_products-free a.terms b p q) (scaled_if-free (int_eq a.constant (pos 0)) a.constant b q)
+product-free a b p q = add_up-free (term_products a.terms b) (scaled a.constant b) (term_products-free a.terms b p q)
+    (scaled_if-free (int_eq a.constant (pos 0)) a.constant b q)

@@ -60,7 +60,8 @@ rest-terms-same k (t ∷ ts) h g =
     let e = rest-same k t.coefficient parts.0 in
     (λ i. item_of t.atom (e i) (rest-terms-same k ts parts.1 g.1 i)) ∙ item_of-one t.atom t.coefficient ts g.0.1
 
-quotient_atom-some : (ts : List (Item Atom)) (c : ℤ) (k : ℕ) → has_items ts ≡ true → quotient_atom ts c k ≡ of_atom (Div (record { terms = ts; constant = c }) k)
+quotient_atom-some : (ts : List (Item Atom)) (c : ℤ) (k : ℕ) → has_items ts ≡ true
+    → quotient_atom ts c k ≡ of_atom (Div (record { terms = ts; constant = c }) k)
 quotient_atom-some [] c k h = absurd (cc)
 quotient_atom-some (t ∷ ts) c k h = refl
 
@@ -99,7 +100,8 @@ products-same f (g ∷ gs) b s =
     ap (product_of (of_atom f)) (products-same g gs b.1 s.1)
     ∙ ap (λ x. of_atom (Mul x)) ((λ j. merged_factors (base_factors f b.0 j) (as_atom-factors g gs b.1.0 j)) ∙ merged-first f g gs s.0.0)
 
-map-same : (f : ℕ → Items) (fs : List Atom) → Each (λ a. Ordered a → NoVar a → put_atom f a ≡ of_atom a) fs → Each Ordered fs → Each NoVar fs → map (put_atom f) fs ≡ map of_atom fs
+map-same : (f : ℕ → Items) (fs : List Atom) → Each (λ a. Ordered a → NoVar a → put_atom f a ≡ of_atom a) fs → Each Ordered fs → Each NoVar fs
+    → map (put_atom f) fs ≡ map of_atom fs
 map-same f [] h o n = refl
 map-same f (g ∷ gs) h o n = λ j. h.0 o.0 n.0 j ∷ map-same f gs h.1 o.1 n.1 j
 
@@ -125,8 +127,10 @@ merged-last (t ∷ ts) u h = ap (λ o. onto_by o t (merged ts) u [] (onto t (mer
 times_one : (c : ℤ) → c *ℤ pos 1 ≡ c
 times_one c = omega (arith, ints)
 
-pub scaled-atom : (c : ℤ) (a : Atom) → int_eq c (pos 0) ≡ false → scaled c (of_atom a) ≡ record { terms = record { atom = a; coefficient = c } ∷ []; constant = pos 0 }
-scaled-atom c a n = ap (λ z. scaled_if z c (of_atom a)) n ∙ (λ j. record { terms = record { atom = a; coefficient = times_one c j } ∷ []; constant = *ℤ-zero c j })
+pub scaled-atom : (c : ℤ) (a : Atom) → int_eq c (pos 0) ≡ false
+    → scaled c (of_atom a) ≡ record { terms = record { atom = a; coefficient = c } ∷ []; constant = pos 0 }
+scaled-atom c a n = ap (λ z. scaled_if z c (of_atom a)) n
+    ∙ (λ j. record { terms = record { atom = a; coefficient = times_one c j } ∷ []; constant = *ℤ-zero c j })
 
 plus_zero : (c : ℤ) → c +ℤ pos 0 ≡ c
 plus_zero c = omega (arith, ints)
@@ -144,7 +148,8 @@ abbrev pub with_atoms : (Atom → Atom) → List (Item Atom) → List (Item Atom
 with_atoms g ts = map (λ t. record { atom = g t.atom; coefficient = t.coefficient }) ts
 
 -- where an atom is put for each atom, and the order stays, the items are those with the new atoms
-pub terms-put : (f : ℕ → Items) (g : Atom → Atom) (pre ts : List (Item Atom)) (c : ℤ) → Sorted (pre ++ with_atoms g ts) → EachItem GoodItem ts → EachItem (λ t. put_atom f t.atom ≡ of_atom (g t.atom)) ts
+pub terms-put : (f : ℕ → Items) (g : Atom → Atom) (pre ts : List (Item Atom)) (c : ℤ) → Sorted (pre ++ with_atoms g ts) → EachItem GoodItem ts
+    → EachItem (λ t. put_atom f t.atom ≡ of_atom (g t.atom)) ts
     → put_terms f ts (record { terms = pre; constant = c }) ≡ record { terms = pre ++ with_atoms g ts; constant = c }
 terms-put f g pre [] c s good h = λ j. record { terms = append_nil pre j; constant = c }
   where

@@ -25,7 +25,8 @@ module _ (f : ℕ → Items) where
   pub put-Mul : (fs : List Atom) → put_atom f (Mul fs) ≡ product_of_all (map (put_atom f) fs)
   put-Mul fs = ap (put_atom f) (sym (rolls-Mul fs)) ∙ fold-roll-Atom Items Items (put_step f) put_items_step (Atom-F.Mul fs)
 
-  added_map : (ts : List (Item Atom)) (start : Items) → add_up (map (λ t. record { atom = put_atom f t.atom; coefficient = t.coefficient }) ts) start ≡ put_terms f ts start
+  added_map : (ts : List (Item Atom)) (start : Items)
+      → add_up (map (λ t. record { atom = put_atom f t.atom; coefficient = t.coefficient }) ts) start ≡ put_terms f ts start
   added_map [] start = refl
   added_map (t ∷ ts) start = added_map ts (sum_of start (scaled t.coefficient (put_atom f t.atom)))
 

@@ -36,7 +36,8 @@ mul_counts fs h o = by fs (mul_parts fs o).two h (mul_parts fs o).good.ordered (
     by (g ∷ gs) two h o e = omega (arith, h.0 o.0, e)
 
 pub counts : (a : Atom) → Counts a
-counts = for_atoms Counts (λ _. Unit {0}) (λ s o. omega (arith, count-Size s)) (λ v o. omega (arith, count-Var v)) (λ i k _ o. omega (arith, count-Div i k)) mul_counts (λ ts c _. tt)
+counts = for_atoms Counts (λ _. Unit {0}) (λ s o. omega (arith, count-Size s)) (λ v o. omega (arith, count-Var v)) (λ i k _ o. omega (arith, count-Div i k))
+    mul_counts (λ ts c _. tt)
 
 pub fit_is : (z : ℤ) → coefficient_fits z ≡ true → unsigned_abs z ≤ 2 ^ 40
 fit_is z h = grind arith
@@ -74,7 +75,8 @@ module _ (f : ℕ → Items) (W : ℕ) (two : 2 ≤ W) (given : (v : ℕ) → no
   AtomSmall a = Ordered a → norm (put_atom f a) ≤ atom_count a * W
 
   abbrev FormSmall : Items → Type 0
-  FormSmall i = is_ordered i ≡ true → (k : ℕ) (h : 0 < k) → all_remainders k i.terms ≡ true → is_remainder k i.constant ≡ true → size k h (put_all f i) ≤ terms_count i.terms * W + 1
+  FormSmall i = is_ordered i ≡ true → (k : ℕ) (h : 0 < k) → all_remainders k i.terms ≡ true → is_remainder k i.constant ≡ true
+      → size k h (put_all f i) ≤ terms_count i.terms * W + 1
 
   size_small : (s : ℕ) → AtomSmall (Size s)
   size_small s o = omega (arith, ap norm (put-Size f s), count-Size s, ap (λ n. n * W) (count-Size s), two)
@@ -90,7 +92,8 @@ module _ (f : ℕ → Items) (W : ℕ) (two : 2 ≤ W) (given : (v : ℕ) → no
       let b = and_parts (nat_le k 2147483647) _ a.1 in
       let c = and_parts (has_items i.terms) _ b.1 in
       let d = and_parts (all_remainders k i.terms) (is_remainder k i.constant) c.1 in
-      omega (arith, ap norm (put-Div f i k), quotient-size (put_all f i) k bounds.0, h parts.1 k bounds.0 d.0 d.1, ap (λ n. n * W) (count-Div i k ∙ ap (λ n. n + 1) (count-items i)), two)
+      omega (arith, ap norm (put-Div f i k), quotient-size (put_all f i) k bounds.0, h parts.1 k bounds.0 d.0 d.1,
+          ap (λ n. n * W) (count-Div i k ∙ ap (λ n. n + 1) (count-items i)), two)
 
   one_norm : (g : Atom) → Ordered g → NoVar g → norm (put_atom f g) ≡ 1
   one_norm g o n = ap norm (put_atom-free f g o n)
@@ -98,7 +101,8 @@ module _ (f : ℕ → Items) (W : ℕ) (two : 2 ≤ W) (given : (v : ℕ) → no
   free_norm : (gs : List Atom) → Each Ordered gs → Each NoVar gs → norm (product_of_all (map (put_atom f) gs)) ≤ 1
   free_norm [] o n = omega arith
   free_norm (g ∷ gs) o n =
-      omega (arith, product-norm (put_atom f g) (product_of_all (map (put_atom f) gs)), ap (λ x. x * norm (product_of_all (map (put_atom f) gs))) (one_norm g o.0 n.0), free_norm gs o.1 n.1)
+      omega (arith, product-norm (put_atom f g) (product_of_all (map (put_atom f) gs)),
+          ap (λ x. x * norm (product_of_all (map (put_atom f) gs))) (one_norm g o.0 n.0), free_norm gs o.1 n.1)
 
   times-one : (m n p : ℕ) → m ≤ p → n ≤ 1 → m * n ≤ p
   times-one m n p h k = grind arith
@@ -108,12 +112,17 @@ module _ (f : ℕ → Items) (W : ℕ) (two : 2 ≤ W) (given : (v : ℕ) → no
   FewOr fs = (norm (product_of_all (map (put_atom f) fs)) ≤ 1) ⊎ (norm (product_of_all (map (put_atom f) fs)) ≤ total (map atom_count fs) * W)
 
   by_free : (g : Atom) (gs : List Atom) → Ordered g → NoVar g → FewOr gs → FewOr (g ∷ gs)
-  by_free g gs o n (inl r) = inl (omega (arith, product-norm (put_atom f g) (product_of_all (map (put_atom f) gs)), ap (λ x. x * norm (product_of_all (map (put_atom f) gs))) (one_norm g o n), r))
-  by_free g gs o n (inr r) = inr (omega (arith, product-norm (put_atom f g) (product_of_all (map (put_atom f) gs)), ap (λ x. x * norm (product_of_all (map (put_atom f) gs))) (one_norm g o n), r))
+  by_free g gs o n (inl r) = inl
+      (omega (arith, product-norm (put_atom f g) (product_of_all (map (put_atom f) gs)),
+      ap (λ x. x * norm (product_of_all (map (put_atom f) gs))) (one_norm g o n), r))
+  by_free g gs o n (inr r) = inr
+      (omega (arith, product-norm (put_atom f g) (product_of_all (map (put_atom f) gs)),
+      ap (λ x. x * norm (product_of_all (map (put_atom f) gs))) (one_norm g o n), r))
 
   by_one : (g : Atom) (gs : List Atom) → Each Ordered gs → Each NoVar gs → norm (put_atom f g) ≤ atom_count g * W → FewOr (g ∷ gs)
   by_one g gs o n h =
-      inr (omega (arith, product-norm (put_atom f g) (product_of_all (map (put_atom f) gs)), times-one (norm (put_atom f g)) (norm (product_of_all (map (put_atom f) gs))) (atom_count g * W) h (free_norm gs o n)))
+      inr (omega (arith, product-norm (put_atom f g) (product_of_all (map (put_atom f) gs)),
+          times-one (norm (put_atom f g)) (norm (product_of_all (map (put_atom f) gs))) (atom_count g * W) h (free_norm gs o n)))
 
   pub factors_norm : (fs : List Atom) → Each Ordered fs → OneVar fs → Each AtomSmall fs → FewOr fs
   factors_norm [] o n h = inl (omega arith)
@@ -143,12 +152,14 @@ module _ (f : ℕ → Items) (W : ℕ) (two : 2 ≤ W) (given : (v : ℕ) → no
   terms_small k h (t ∷ ts) start s g r =
       let x = put_atom f t.atom in
       let rs = and_parts (is_remainder k t.coefficient) (all_remainders k ts) r in
-      omega (arith, terms_small k h ts (sum_of start (scaled t.coefficient x)) s.1 g.1 rs.1, sum-size k h start (scaled t.coefficient x), scaled-size k h t.coefficient x (remainder-size k t.coefficient rs.0), s.0 g.0.0)
+      omega (arith, terms_small k h ts (sum_of start (scaled t.coefficient x)) s.1 g.1 rs.1, sum-size k h start (scaled t.coefficient x),
+          scaled-size k h t.coefficient x (remainder-size k t.coefficient rs.0), s.0 g.0.0)
 
   form_small : (ts : List (Item Atom)) (c : ℤ) → EachTerm AtomSmall ts → FormSmall (record { terms = ts; constant = c })
   form_small ts c s o k h r q =
       let i : Items = record { terms = ts; constant = c } in
-      omega (arith, ap (size k h) (put-items f i), terms_small k h ts (literal_form c) s (ordered-terms i o).1 r, begun-least k (unsigned_abs c) 1 h (omega (arith, remainder-size k c q)))
+      omega (arith, ap (size k h) (put-items f i), terms_small k h ts (literal_form c) s (ordered-terms i o).1 r,
+          begun-least k (unsigned_abs c) 1 h (omega (arith, remainder-size k c q)))
 
   pub atom_small : (a : Atom) → AtomSmall a
   atom_small = for_atoms AtomSmall FormSmall size_small var_small div_small mul_small form_small
@@ -159,7 +170,8 @@ module _ (f : ℕ → Items) (W : ℕ) (two : 2 ≤ W) (given : (v : ℕ) → no
   terms_most C [] start s g = omega arith
   terms_most C (t ∷ ts) start s g =
       let x = put_atom f t.atom in
-      omega (arith, terms_most C ts (sum_of start (scaled t.coefficient x)) s.1 g.1, sum-norm start (scaled t.coefficient x), scaled-norm t.coefficient x, both (unsigned_abs t.coefficient) C (norm x) (atom_count t.atom * W) s.0 (atom_small t.atom g.0.0))
+      omega (arith, terms_most C ts (sum_of start (scaled t.coefficient x)) s.1 g.1, sum-norm start (scaled t.coefficient x), scaled-norm t.coefficient x,
+          both (unsigned_abs t.coefficient) C (norm x) (atom_count t.atom * W) s.0 (atom_small t.atom g.0.0))
     where
       both : (a b c d : ℕ) → a ≤ b → c ≤ d → a * c ≤ b * d
       both a b c d p q = grind arith

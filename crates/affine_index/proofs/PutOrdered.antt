@@ -42,7 +42,8 @@ module _ (f : ℕ → Items) where
   free_all [] o n = tt
   free_all (g ∷ gs) o n = product-free (put_atom f g) (product_of_all (map (put_atom f) gs)) (free_one g o.0 n.0) (free_all gs o.1 n.1)
 
-  pub apart_all : (g : Atom) (gs : List Atom) → Ordered g → Each Ordered gs → (NoVar g ⊎ Each NoVar gs) → Apart (put_atom f g) (product_of_all (map (put_atom f) gs))
+  pub apart_all : (g : Atom) (gs : List Atom) → Ordered g → Each Ordered gs → (NoVar g ⊎ Each NoVar gs)
+      → Apart (put_atom f g) (product_of_all (map (put_atom f) gs))
   apart_all g gs o os (inl n) = inl (free_one g o n)
   apart_all g gs o os (inr n) = inr (free_all gs os n)
 
@@ -67,12 +68,14 @@ module _ (f : ℕ → Items) (given : (v : ℕ) → is_ordered (f v) ≡ true) w
 
   all_give : (fs : List Atom) → Each AtomGives fs → Each Ordered fs → OneVar fs → is_ordered (product_of_all (map (put_atom f) fs)) ≡ true
   all_give [] h o n = literal-ordered (pos 1)
-  all_give (g ∷ gs) h o n = products-ordered (put_atom f g) (product_of_all (map (put_atom f) gs)) (h.0 o.0) (all_give gs h.1 o.1 n.1) (apart_all f g gs o.0 o.1 n.0)
+  all_give (g ∷ gs) h o n = products-ordered (put_atom f g) (product_of_all (map (put_atom f) gs)) (h.0 o.0) (all_give gs h.1 o.1 n.1)
+      (apart_all f g gs o.0 o.1 n.0)
 
   mul_gives : (fs : List Atom) → Each AtomGives fs → AtomGives (Mul fs)
   mul_gives fs h o = ap is_ordered (put-Mul f fs) ∙ all_give fs h (mul_parts fs o).good.ordered (mul_parts fs o).one
 
-  terms_give : (ts : List (Item Atom)) (start : Items) → EachTerm AtomGives ts → EachItem GoodItem ts → is_ordered start ≡ true → is_ordered (put_terms f ts start) ≡ true
+  terms_give : (ts : List (Item Atom)) (start : Items) → EachTerm AtomGives ts → EachItem GoodItem ts → is_ordered start ≡ true
+      → is_ordered (put_terms f ts start) ≡ true
   terms_give [] start h g s = s
   terms_give (t ∷ ts) start h g s =
       terms_give ts (sum_of start (scaled t.coefficient (put_atom f t.atom))) h.1 g.1

@@ -1,12 +1,14 @@
 -- What the calls owe one another where forms are put for variables.
-use Rattle.std.proofs.Common.{◌≡◌, ℕ, zero, suc, ◌+◌, ◌*◌, ◌^◌, ◌<◌, ◌≤◌, ◌⊎◌, inl, inr, List, [], ◌∷◌, length, map, drop, get_or, refl, ap, sym, ◌∙◌, subst, true, arith, nat_le}
+use Rattle.std.proofs.Common.{◌≡◌, ℕ, zero, suc, ◌+◌, ◌*◌, ◌^◌, ◌<◌, ◌≤◌, ◌⊎◌, inl, inr, List, [], ◌∷◌, length, map, drop, get_or, refl, ap, sym, ◌∙◌, subst}
+use Rattle.std.proofs.Common.{true, arith, nat_le}
 use Rattle.std.specs.Prelude.{ℤ, pos, negsuc}
 use Rattle.std.specs.Int.RustNames.{unsigned_abs}
 use Rattle.std.proofs.lemmas.Bool.{and_from, and_parts}
 use Rattle.affine_index.specs.Count.{atom_count, items_count, terms_count, total}
 use Rattle.affine_index.specs.Every.{terms_every}
 use Rattle.affine_index.specs.Form.{literal_form}
-use Rattle.affine_index.specs.Normal.{all_remainders, atom_good, atom_is_ordered, coefficient_fits, coefficients_fit, has_items, is_normal, is_ordered, is_remainder, is_short, items_good, terms_fit}
+use Rattle.affine_index.specs.Normal.{all_remainders, atom_good, atom_is_ordered, coefficient_fits, coefficients_fit, has_items, is_normal, is_ordered}
+use Rattle.affine_index.specs.Normal.{is_remainder, is_short, items_good, terms_fit}
 use Rattle.affine_index.specs.Product.{product_of, product_of_all}
 use Rattle.affine_index.specs.Put.{put_all, put_atom, put_terms}
 use Rattle.affine_index.specs.Sum.{scaled, sum_of}
@@ -50,7 +52,8 @@ dividend-normal i k o n =
     let d = and_parts (all_remainders k i.terms) (is_remainder k i.constant) c.1 in
     let few : items_count i ≤ 128 = omega (arith, count-Div i k, n) in
     and_from (is_ordered i) _ parts.1 (and_from (coefficients_fit i) (is_short i)
-    (and_from (terms_fit i.terms) (coefficient_fits i.constant) (remainders_fit k i.terms bounds.1 d.0) (remainder_fits k i.constant bounds.1 d.1)) (short_from (items_count i) few))
+    (and_from (terms_fit i.terms) (coefficient_fits i.constant) (remainders_fit k i.terms bounds.1 d.0) (remainder_fits k i.constant bounds.1 d.1))
+        (short_from (items_count i) few))
 
 pub divisor-positive : (i : Items) (k : ℕ) → Ordered (Div i k) → 0 < k
 divisor-positive i k o = (divisor_bounds i k (ordered-Div i k o).0).0
@@ -87,7 +90,8 @@ one-drop [] (suc at) h = tt
 one-drop (f ∷ fs) zero h = h
 one-drop (f ∷ fs) (suc at) h = one-drop fs at h.1
 
-pub product-next : (f : ℕ → Items) (fs : List Atom) (at : ℕ) (x : Atom) (form forms : Items) → at < length fs → x ≡ get_or fs at x → form ≡ put_atom f x → forms ≡ product_of_all (map (put_atom f) (drop (at + 1) fs))
+pub product-next : (f : ℕ → Items) (fs : List Atom) (at : ℕ) (x : Atom) (form forms : Items) → at < length fs → x ≡ get_or fs at x → form ≡ put_atom f x
+    → forms ≡ product_of_all (map (put_atom f) (drop (at + 1) fs))
     → product_of form forms ≡ product_of_all (map (put_atom f) (drop at fs))
 product-next f fs at x form forms h e p q = (λ k. product_of (p k) (q k)) ∙ ap (λ gs. product_of_all (map (put_atom f) gs)) (sym (drop-item fs at x h e))
 
@@ -108,17 +112,21 @@ module _ (f : ℕ → Items) (normal : (v : ℕ) → is_normal (f v) ≡ true) w
   all_small [] o = tt
   all_small (g ∷ gs) o = (atom_small f (2 ^ 48) two small g, all_small gs o.1)
 
-  pub factors-small : (fs : List Atom) (at : ℕ) → Ordered (Mul fs) → total (map atom_count fs) ≤ 128 → norm (product_of_all (map (put_atom f) (drop at fs))) ≤ 2 ^ 55
+  pub factors-small : (fs : List Atom) (at : ℕ) → Ordered (Mul fs) → total (map atom_count fs) ≤ 128
+      → norm (product_of_all (map (put_atom f) (drop at fs))) ≤ 2 ^ 55
   factors-small fs at o n =
       let parts = mul_parts fs o in
       let os = each-drop Ordered fs at parts.good.ordered in
       by (factors_norm f (2 ^ 48) two small (drop at fs) os (one-drop fs at parts.one) (all_small (drop at fs) os))
     where
-      by : (norm (product_of_all (map (put_atom f) (drop at fs))) ≤ 1) ⊎ (norm (product_of_all (map (put_atom f) (drop at fs))) ≤ total (map atom_count (drop at fs)) * 2 ^ 48) → norm (product_of_all (map (put_atom f) (drop at fs))) ≤ 2 ^ 55
+      by : (norm (product_of_all (map (put_atom f) (drop at fs))) ≤ 1)
+          ⊎ (norm (product_of_all (map (put_atom f) (drop at fs))) ≤ total (map atom_count (drop at fs)) * 2 ^ 48)
+          → norm (product_of_all (map (put_atom f) (drop at fs))) ≤ 2 ^ 55
       by (inl h) = omega (arith, h)
       by (inr h) = omega (arith, h, total-drop fs at, n)
 
-  pub product-room : (form forms : Items) (a : Atom) (fs : List Atom) (at : ℕ) → form ≡ put_atom f a → forms ≡ product_of_all (map (put_atom f) (drop at fs)) → Ordered a → atom_count a ≤ 128 → Ordered (Mul fs) → total (map atom_count fs) ≤ 128
+  pub product-room : (form forms : Items) (a : Atom) (fs : List Atom) (at : ℕ) → form ≡ put_atom f a → forms ≡ product_of_all (map (put_atom f) (drop at fs))
+      → Ordered a → atom_count a ≤ 128 → Ordered (Mul fs) → total (map atom_count fs) ≤ 128
       → (norm form * norm forms < 2 ^ 127) × (norm forms < 2 ^ 127)
   product-room form forms a fs at p q oa na o n =
       let first : norm form ≤ 2 ^ 55 = omega (arith, ap norm p, put_atom-norm a oa na) in
@@ -133,7 +141,9 @@ module _ (f : ℕ → Items) (normal : (v : ℕ) → is_normal (f v) ≡ true) w
   pub put_all-norm : (i : Items) → is_normal i ≡ true → norm (put_all f i) ≤ 2 ^ 96
   put_all-norm i h =
       let p = normal_parts i h in
-      omega (arith, ap norm (put-items f i), terms_most f (2 ^ 48) two small (2 ^ 40) i.terms (literal_form i.constant) (coefficients-most i.terms p.fits) (ordered-terms i p.ordered).1, p.constant, p.short)
+      omega (arith, ap norm (put-items f i),
+          terms_most f (2 ^ 48) two small (2 ^ 40) i.terms (literal_form i.constant) (coefficients-most i.terms p.fits) (ordered-terms i p.ordered).1,
+          p.constant, p.short)
 
   pub dividend-room : (i form : Items) → is_normal i ≡ true → form ≡ put_all f i → norm form + 1 < 2 ^ 127
   dividend-room i form h e = omega (arith, ap norm e, put_all-norm i h)
@@ -162,10 +172,12 @@ pub record ItemFacts (t : Item Atom) : Type 0 where
   pub coefficient : unsigned_abs t.coefficient ≤ 2 ^ 40
   pub short : atom_count t.atom ≤ 128
 
-pub item_facts : (ts : List (Item Atom)) (at : ℕ) (t : Item Atom) → at < length ts → t ≡ get_or ts at t → terms_every atom_good items_good ts ≡ true → terms_fit ts ≡ true → terms_count ts ≤ 128 → ItemFacts t
+pub item_facts : (ts : List (Item Atom)) (at : ℕ) (t : Item Atom) → at < length ts → t ≡ get_or ts at t → terms_every atom_good items_good ts ≡ true
+    → terms_fit ts ≡ true → terms_count ts ≤ 128 → ItemFacts t
 item_facts ts at t h e o f n =
     let d = drop-item ts at t h e in
-    let os = and_parts (atom_is_ordered t.atom) (terms_every atom_good items_good (drop (at + 1) ts)) (sym (ap (terms_every atom_good items_good) d) ∙ every-drop ts at o) in
+    let os = and_parts (atom_is_ordered t.atom) (terms_every atom_good items_good (drop (at + 1) ts))
+        (sym (ap (terms_every atom_good items_good) d) ∙ every-drop ts at o) in
     let fs = and_parts (coefficient_fits t.coefficient) (terms_fit (drop (at + 1) ts)) (sym (ap terms_fit d) ∙ fit-drop ts at f) in
     record { ordered = os.0; coefficient = fit_is t.coefficient fs.0; short = omega (arith, count-drop ts at, ap terms_count d, n) }
 
@@ -180,20 +192,26 @@ room ts = 2 ^ 40 * (terms_count ts * 2 ^ 48)
 module _ (f : ℕ → Items) (normal : (v : ℕ) → is_normal (f v) ≡ true) where
   pub item-size : (t : Item Atom) → ItemFacts t → norm (scaled t.coefficient (put_atom f t.atom)) ≤ 2 ^ 40 * (atom_count t.atom * 2 ^ 48)
   item-size t g =
-      omega (arith, scaled-norm t.coefficient (put_atom f t.atom), most (unsigned_abs t.coefficient) (norm (put_atom f t.atom)) (2 ^ 40) (atom_count t.atom * 2 ^ 48) g.coefficient (atom_small f (2 ^ 48) (omega arith) (λ v. normal-norm (f v) (normal v)) t.atom g.ordered))
+      omega (arith, scaled-norm t.coefficient (put_atom f t.atom),
+          most (unsigned_abs t.coefficient) (norm (put_atom f t.atom)) (2 ^ 40) (atom_count t.atom * 2 ^ 48) g.coefficient
+          (atom_small f (2 ^ 48) (omega arith) (λ v. normal-norm (f v) (normal v)) t.atom g.ordered))
 
-  pub room-next : (ts : List (Item Atom)) (at : ℕ) (t : Item Atom) → at < length ts → t ≡ get_or ts at t → ItemFacts t → norm (scaled t.coefficient (put_atom f t.atom)) + room (drop (at + 1) ts) ≤ room (drop at ts)
+  pub room-next : (ts : List (Item Atom)) (at : ℕ) (t : Item Atom) → at < length ts → t ≡ get_or ts at t → ItemFacts t
+      → norm (scaled t.coefficient (put_atom f t.atom)) + room (drop (at + 1) ts) ≤ room (drop at ts)
   room-next ts at t h e g = omega (arith, item-size t g, ap terms_count (drop-item ts at t h e))
 
   pub scaled-fits : (t : Item Atom) (form : Items) → ItemFacts t → form ≡ put_atom f t.atom → unsigned_abs t.coefficient * norm form < 2 ^ 127
   scaled-fits t form g e =
-      omega (arith, ap (λ i. unsigned_abs t.coefficient * norm i) e, most (unsigned_abs t.coefficient) (norm (put_atom f t.atom)) (2 ^ 40) (2 ^ 55) g.coefficient (put_atom-norm f normal t.atom g.ordered g.short))
+      omega (arith, ap (λ i. unsigned_abs t.coefficient * norm i) e,
+          most (unsigned_abs t.coefficient) (norm (put_atom f t.atom)) (2 ^ 40) (2 ^ 55) g.coefficient (put_atom-norm f normal t.atom g.ordered g.short))
 
-pub product-drop : (f : ℕ → Items) (fs : List Atom) {m n : ℕ} → m ≡ n → product_of_all (map (put_atom f) (drop m fs)) ≡ product_of_all (map (put_atom f) (drop n fs))
+pub product-drop : (f : ℕ → Items) (fs : List Atom) {m n : ℕ} → m ≡ n
+    → product_of_all (map (put_atom f) (drop m fs)) ≡ product_of_all (map (put_atom f) (drop n fs))
 product-drop f fs e = ap (λ n. product_of_all (map (put_atom f) (drop n fs))) e
 
 -- what is known of the items of a normal form
-pub form-terms : (i : Items) → is_normal i ≡ true → (terms_every atom_good items_good i.terms ≡ true) × (terms_fit i.terms ≡ true) × (coefficient_fits i.constant ≡ true) × (terms_count i.terms ≤ 128)
+pub form-terms : (i : Items) → is_normal i ≡ true → (terms_every atom_good items_good i.terms ≡ true) × (terms_fit i.terms ≡ true)
+    × (coefficient_fits i.constant ≡ true) × (terms_count i.terms ≤ 128)
 form-terms i h =
     let a = and_parts (is_ordered i) _ h in
     let b = and_parts (coefficients_fit i) (is_short i) a.1 in

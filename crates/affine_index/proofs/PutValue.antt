@@ -1,5 +1,6 @@
 -- What is put for a variable has its value, so the whole keeps its value.
-use Rattle.std.proofs.Common.{◌≡◌, ℕ, ◌+◌, ◌-◌, ◌<◌, ◌≤◌, List, [], ◌∷◌, ◌++◌, take, drop, length, map, get_or, refl, ap, sym, ◌∙◌, Bool, true, false, cond, nat_lt, arith}
+use Rattle.std.proofs.Common.{◌≡◌, ℕ, ◌+◌, ◌-◌, ◌<◌, ◌≤◌, List, [], ◌∷◌, ◌++◌, take, drop, length, map, get_or, refl, ap, sym, ◌∙◌, Bool, true, false, cond}
+use Rattle.std.proofs.Common.{nat_lt, arith}
 use Rattle.std.specs.Prelude.{ℤ, pos, ◌+ℤ◌, ◌*ℤ◌, slice_index}
 use Rattle.std.specs.Cmp.{ranks}
 use Rattle.std.specs.Int.{int_div_euclid}
@@ -22,7 +23,8 @@ use Rattle.affine_index.proofs.PutOrdered.{divisor_bounds}
 use Rattle.affine_index.proofs.ReadyLaws.{ordered-Div}
 use Rattle.affine_index.proofs.Sorted.{EachItem, GoodItem, ordered-terms}
 use Rattle.affine_index.proofs.SumValue.{items_value-is, sum_of-value}
-use Rattle.affine_index.proofs.Values.{each_product, factors_value, value-Div, value-Mul, value-Size, value-Var, value-literal, value-of_atom, value-product_of_all, value-quotient, value-scaled}
+use Rattle.affine_index.proofs.Values.{each_product, factors_value, value-Div, value-Mul, value-Size, value-Var, value-literal, value-of_atom}
+use Rattle.affine_index.proofs.Values.{value-product_of_all, value-quotient, value-scaled}
 use Rattle.affine_index.specs.declared.form.Atom.{Atom}
 use Rattle.affine_index.specs.declared.form.Atom.TheVariants.{Size, Var, Div, Mul}
 use Rattle.affine_index.specs.declared.form.Item.{Item}
@@ -53,18 +55,22 @@ module _ (s v w : List ℕ) (f : ℕ → Items) (law : (k : ℕ) → items_value
 
   mul_keeps : (fs : List Atom) → Each AtomKeeps fs → AtomKeeps (Mul fs)
   mul_keeps fs h o =
-      ap (items_value s w) (put-Mul f fs) ∙ value-product_of_all s w (map (put_atom f) fs) ∙ all_keep fs h (mul_parts fs o).good.ordered ∙ sym (value-Mul s v fs)
+      ap (items_value s w) (put-Mul f fs) ∙ value-product_of_all s w (map (put_atom f) fs) ∙ all_keep fs h (mul_parts fs o).good.ordered
+          ∙ sym (value-Mul s v fs)
 
-  terms_keep : (ts : List (Item Atom)) (start : Items) → EachTerm AtomKeeps ts → EachItem GoodItem ts → items_value s w (put_terms f ts start) ≡ items_value s w start +ℤ terms_value s v ts
+  terms_keep : (ts : List (Item Atom)) (start : Items) → EachTerm AtomKeeps ts → EachItem GoodItem ts
+      → items_value s w (put_terms f ts start) ≡ items_value s w start +ℤ terms_value s v ts
   terms_keep [] start h g = omega (arith, ints)
   terms_keep (t ∷ ts) start h g =
       let x = put_atom f t.atom in
-      omega (arith, ints, terms_keep ts (sum_of start (scaled t.coefficient x)) h.1 g.1, sum_of-value s w start (scaled t.coefficient x), value-scaled s w t.coefficient x, ap (λ z. t.coefficient *ℤ z) (h.0 g.0.0))
+      omega (arith, ints, terms_keep ts (sum_of start (scaled t.coefficient x)) h.1 g.1, sum_of-value s w start (scaled t.coefficient x),
+          value-scaled s w t.coefficient x, ap (λ z. t.coefficient *ℤ z) (h.0 g.0.0))
 
   form_keeps : (ts : List (Item Atom)) (c : ℤ) → EachTerm AtomKeeps ts → FormKeeps (record { terms = ts; constant = c })
   form_keeps ts c h o =
       let i : Items = record { terms = ts; constant = c } in
-      ap (items_value s w) (put-items f i) ∙ omega (arith, ints, terms_keep ts (literal_form c) h (ordered-terms i o).1, value-literal s w c, items_value-is s v i)
+      ap (items_value s w) (put-items f i)
+          ∙ omega (arith, ints, terms_keep ts (literal_form c) h (ordered-terms i o).1, value-literal s w c, items_value-is s v i)
 
   -- a form where each variable has the value of what is put for it
   pub value-put_all : (i : Items) → FormKeeps i
@@ -97,14 +103,18 @@ module _ (s w : List ℕ) where
           sym (get_or_append_left (take from w) (drop (from + by) w) 0 k lt2 ∙ get_or-take from w k 0 lt)
       choose false e =
           let le = above_is k from e in
-          sym (get_or-append_right (take from w) (drop (from + by) w) from k 0 long le ∙ get_or-drop (from + by) w (k - from) 0 ∙ ap (λ n. get_or w n 0) (reach from by k le))
+          sym (get_or-append_right (take from w) (drop (from + by) w) from k 0 long le ∙ get_or-drop (from + by) w (k - from) 0
+              ∙ ap (λ n. get_or w n 0) (reach from by k le))
 
   -- moved variables have the values that the others had
-  pub value-shifted : (from by : ℕ) (i : Items) → from ≤ length w → is_ordered i ≡ true → items_value s w (shifted from by i) ≡ items_value s (take from w ++ drop (from + by) w) i
+  pub value-shifted : (from by : ℕ) (i : Items) → from ≤ length w → is_ordered i ≡ true
+      → items_value s w (shifted from by i) ≡ items_value s (take from w ++ drop (from + by) w) i
   value-shifted from by i h =
-      value-put_all s (take from w ++ drop (from + by) w) w (moved from by) (λ k. value-var_form (cond (nat_lt k from) k (k + by)) ∙ ap pos (skipped from by k h)) i
+      value-put_all s (take from w ++ drop (from + by) w) w (moved from by)
+          (λ k. value-var_form (cond (nat_lt k from) k (k + by)) ∙ ap pos (skipped from by k h)) i
 
-  one_value : (v : ℕ) (by : Items) (n k : ℕ) (o : Ordering) → MatchOrdering o (k < v) (k ≡ v) (v < k) → v ≤ length w → items_value s w by ≡ pos n → items_value s w (one_by o by k) ≡ pos (get_or (insert w v n) k 0)
+  one_value : (v : ℕ) (by : Items) (n k : ℕ) (o : Ordering) → MatchOrdering o (k < v) (k ≡ v) (v < k) → v ≤ length w → items_value s w by ≡ pos n
+      → items_value s w (one_by o by k) ≡ pos (get_or (insert w v n) k 0)
   one_value v by n k Less m h e = value-var_form k ∙ ap pos (sym (get_or-insert_below w v n 0 k m h))
   one_value v by n k Equal m h e = e ∙ ap pos (sym (ap (λ j. get_or (insert w v n) j 0) m ∙ get_or-insert_at w v n 0 h))
   one_value v by n k Greater m h e =
@@ -117,6 +127,7 @@ module _ (s w : List ℕ) where
       above k v m = omega arith
 
   -- a form put for a variable stands for its value
-  pub value-put_var : (v : ℕ) (by : Items) (n : ℕ) (i : Items) → v ≤ length w → items_value s w by ≡ pos n → is_ordered i ≡ true → items_value s w (put_var v by i) ≡ items_value s (insert w v n) i
+  pub value-put_var : (v : ℕ) (by : Items) (n : ℕ) (i : Items) → v ≤ length w → items_value s w by ≡ pos n → is_ordered i ≡ true
+      → items_value s w (put_var v by i) ≡ items_value s (insert w v n) i
   value-put_var v by n i h e =
       value-put_all s (insert w v n) w (one_given v by) (λ k. one_value v by n k (nat_cmp k v) (ranks k v) h e) i

@@ -24,5 +24,6 @@ whole-step k ts at t h e = ap (whole_terms k) (drop-item ts at t h e)
 
 pub ruleset quotient_laws = (item_of-zero, item_of-other)
 
-pub quotient-room : (i x y : Items) (k : ℕ) → 0 < k → x ≡ whole_part i k → y ≡ quotient_atom (rest_part i k).terms (rest_part i k).constant k → norm i + 1 < 2 ^ 127 → norm x + norm y < 2 ^ 127
+pub quotient-room : (i x y : Items) (k : ℕ) → 0 < k → x ≡ whole_part i k → y ≡ quotient_atom (rest_part i k).terms (rest_part i k).constant k
+    → norm i + 1 < 2 ^ 127 → norm x + norm y < 2 ^ 127
 quotient-room i x y k h e f p = omega (arith, ap norm e, ap norm f, whole-most i k h, quotient_atom-norm (rest_part i k).terms (rest_part i k).constant k, p)

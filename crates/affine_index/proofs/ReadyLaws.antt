@@ -3,7 +3,8 @@ use Rattle.std.proofs.Common.{◌≡◌, ℕ, List, [], ◌∷◌, map, refl, ap
 use Rattle.std.specs.Prelude.{ℤ}
 use Rattle.std.proofs.lemmas.Bool.{and_from, and_parts}
 use Rattle.affine_index.specs.Every.{atoms_every, terms_every}
-use Rattle.affine_index.specs.Limited.{scoped_step, scoped_items_step, atom_scoped, items_scoped, atom_ready, items_ready, atoms_ready, terms_ready, all_true, all_firsts}
+use Rattle.affine_index.specs.Limited.{scoped_step, scoped_items_step, atom_scoped, items_scoped, atom_ready, items_ready, atoms_ready, terms_ready, all_true}
+use Rattle.affine_index.specs.Limited.{all_firsts}
 use Rattle.affine_index.specs.Normal.{atom_good, atom_is_ordered, is_normal, is_ordered, items_good, layer_good}
 use Rattle.affine_index.proofs.EveryLaws.{every-Div, every-Mul, every-items}
 use Rattle.affine_index.proofs.Induction.{Each, EachTerm, for_items}
@@ -92,7 +93,8 @@ module _ (s v : ℕ) where
       let parts = ordered-Div i k o in
       ready-Div s v i k ∙ and_from _ _ (positive k (divisor_at_least_2 i k parts.0)) (r parts.1 (sym (scoped-Div i k) ∙ h))
 
-  all_ready : (fs : List Atom) → Each AtomReady fs → atoms_every atom_good items_good fs ≡ true → all_true (map (atom_scoped s v) fs) ≡ true → atoms_ready s v fs ≡ true
+  all_ready : (fs : List Atom) → Each AtomReady fs → atoms_every atom_good items_good fs ≡ true → all_true (map (atom_scoped s v) fs) ≡ true
+      → atoms_ready s v fs ≡ true
   all_ready [] r o h = refl
   all_ready (f ∷ fs) r o h =
       let os = and_parts (atom_is_ordered f) (atoms_every atom_good items_good fs) o in
@@ -102,7 +104,8 @@ module _ (s v : ℕ) where
   mul_ready : (fs : List Atom) → Each AtomReady fs → AtomReady (Mul fs)
   mul_ready fs r o h = ready-Mul s v fs ∙ all_ready fs r (ordered-Mul fs o).1 (sym (scoped-Mul fs) ∙ h)
 
-  all_terms_ready : (ts : List (Item Atom)) → EachTerm AtomReady ts → terms_every atom_good items_good ts ≡ true → all_firsts (map scoped_term ts) ≡ true → terms_ready s v ts ≡ true
+  all_terms_ready : (ts : List (Item Atom)) → EachTerm AtomReady ts → terms_every atom_good items_good ts ≡ true → all_firsts (map scoped_term ts) ≡ true
+      → terms_ready s v ts ≡ true
   all_terms_ready [] r o h = refl
   all_terms_ready (t ∷ ts) r o h =
       let os = and_parts (atom_is_ordered t.atom) (terms_every atom_good items_good ts) o in
@@ -121,7 +124,8 @@ module _ (s v : ℕ) where
   pub normal-ready : (i : Items) → is_normal i ≡ true → items_scoped s v i ≡ true → items_ready s v i ≡ true
   normal-ready i n = ordered-ready i (and_parts (is_ordered i) _ n).0
 
-pub atoms-ready-next : (s v : ℕ) (fs : List Atom) (at : ℕ) (x : Atom) → at < length fs → x ≡ get_or fs at x → atoms_ready s v (drop at fs) ≡ true → atoms_ready s v (drop (at + 1) fs) ≡ true
+pub atoms-ready-next : (s v : ℕ) (fs : List Atom) (at : ℕ) (x : Atom) → at < length fs → x ≡ get_or fs at x → atoms_ready s v (drop at fs) ≡ true
+    → atoms_ready s v (drop (at + 1) fs) ≡ true
 atoms-ready-next s v fs at x h e r =
     let d : drop at fs ≡ x ∷ drop (at + 1) fs = drop-item fs at x h e in
     (and_parts (atom_ready s v x) (atoms_ready s v (drop (at + 1) fs)) (sym (ap (atoms_ready s v) d) ∙ r)).1

@@ -1,11 +1,13 @@
 -- Where variables are moved by a map that keeps their order, a form stays in normal form, with the same numbers and as many atoms.
-use Rattle.std.proofs.Common.{◌≡◌, ℕ, ◌+◌, ◌≤◌, List, [], ◌∷◌, length, map, refl, ap, sym, ◌∙◌, arith, Bool, true, false, ◌&&◌, cond, nat_le, nat_lt, Result, Ok, Err, MatchResult}
+use Rattle.std.proofs.Common.{◌≡◌, ℕ, ◌+◌, ◌≤◌, List, [], ◌∷◌, length, map, refl, ap, sym, ◌∙◌, arith, Bool, true, false, ◌&&◌, cond, nat_le, nat_lt, Result}
+use Rattle.std.proofs.Common.{Ok, Err, MatchResult}
 use Rattle.std.specs.Prelude.{ℤ}
 use Rattle.std.specs.Ordering.{int_cmp, is_le, nat_cmp, ordering_then}
 use Rattle.std.proofs.lemmas.List.{length-map}
 use Rattle.affine_index.specs.Count.{atom_count, items_count, terms_count, total}
 use Rattle.affine_index.specs.Form.{of_atom, var_form}
-use Rattle.affine_index.specs.Normal.{Refused, all_remainders, base_layer, coefficient_fits, coefficients_fit, has_items, is_normal, is_ordered, is_remainder, is_short, layer_good, terms_fit}
+use Rattle.affine_index.specs.Normal.{Refused, all_remainders, base_layer, coefficient_fits, coefficients_fit, has_items, is_normal, is_ordered, is_remainder}
+use Rattle.affine_index.specs.Normal.{is_short, layer_good, terms_fit}
 use Rattle.affine_index.specs.Order.{atom_order, factors_order, items_order, terms_order}
 use Rattle.affine_index.specs.Product.{product_of_all}
 use Rattle.affine_index.specs.Put.{put_all, put_atom, shifted}
@@ -94,7 +96,8 @@ module _ (m : ℕ → ℕ) (rising : (v w : ℕ) → nat_cmp (m v) (m w) ≡ nat
   div_order i k h = by_kind (λ b. atom_order (renamed_atom (Div i k)) (renamed_atom b) ≡ atom_order (Div i k) b)
       (λ t. simp (renamed-Size, renamed-Div, order-out, out-Size, out-Div))
       (λ w. simp (renamed-Var, renamed-Div, order-out, out-Var, out-Div))
-      (λ j l. (λ n. atom_order (renamed-Div i k n) (renamed-Div j l n)) ∙ order-Div (renamed i) k (renamed j) l ∙ ap (ordering_then (nat_cmp k l)) (h j) ∙ sym (order-Div i k j l))
+      (λ j l. (λ n. atom_order (renamed-Div i k n) (renamed-Div j l n)) ∙ order-Div (renamed i) k (renamed j) l ∙ ap (ordering_then (nat_cmp k l)) (h j)
+          ∙ sym (order-Div i k j l))
       (λ gs. simp (renamed-Div, renamed-Mul, order-out, out-Div, out-Mul))
 
   factors_order_kept : (fs gs : List Atom) → Each KeepsOrder fs → factors_order (map renamed_atom fs) (map renamed_atom gs) ≡ factors_order fs gs
@@ -108,9 +111,11 @@ module _ (m : ℕ → ℕ) (rising : (v w : ℕ) → nat_cmp (m v) (m w) ≡ nat
       (λ t. simp (renamed-Size, renamed-Mul, order-out, out-Size, out-Mul))
       (λ w. simp (renamed-Var, renamed-Mul, order-out, out-Var, out-Mul))
       (λ j l. simp (renamed-Div, renamed-Mul, order-out, out-Div, out-Mul))
-      (λ gs. (λ n. atom_order (renamed-Mul fs n) (renamed-Mul gs n)) ∙ order-Mul (map renamed_atom fs) (map renamed_atom gs) ∙ factors_order_kept fs gs h ∙ sym (order-Mul fs gs))
+      (λ gs. (λ n. atom_order (renamed-Mul fs n) (renamed-Mul gs n)) ∙ order-Mul (map renamed_atom fs) (map renamed_atom gs) ∙ factors_order_kept fs gs h
+          ∙ sym (order-Mul fs gs))
 
-  terms_order_kept : (ts us : List (Item Atom)) → EachTerm KeepsOrder ts → terms_order (with_atoms renamed_atom ts) (with_atoms renamed_atom us) ≡ terms_order ts us
+  terms_order_kept : (ts us : List (Item Atom)) → EachTerm KeepsOrder ts
+      → terms_order (with_atoms renamed_atom ts) (with_atoms renamed_atom us) ≡ terms_order ts us
   terms_order_kept [] [] h = refl
   terms_order_kept [] (u ∷ us) h = refl
   terms_order_kept (t ∷ ts) [] h = refl
@@ -202,7 +207,8 @@ module _ (m : ℕ → ℕ) (rising : (v w : ℕ) → nat_cmp (m v) (m w) ≡ nat
       ∙ product-is (map renamed_atom fs) two (all_base_kept fs parts.good.base) (factors_sorted_kept fs parts.good.sorted)
       ∙ ap of_atom (sym (renamed-Mul fs))
 
-  each_moves : (ts : List (Item Atom)) → EachTerm AtomMoves ts → EachItem GoodItem ts → EachItem (λ t. put_atom put_for t.atom ≡ of_atom (renamed_atom t.atom)) ts
+  each_moves : (ts : List (Item Atom)) → EachTerm AtomMoves ts → EachItem GoodItem ts
+      → EachItem (λ t. put_atom put_for t.atom ≡ of_atom (renamed_atom t.atom)) ts
   each_moves [] h g = tt
   each_moves (t ∷ ts) h g = (h.0 g.0.0, each_moves ts h.1 g.1)
 
@@ -273,13 +279,15 @@ moved_rises from by v w = split (nat_lt v from) (nat_lt w from) refl refl
 pub shifted-refused : (from by : ℕ) (i : Items) (e : AffRefusal) → is_normal i ≡ true → Refused (shifted from by i) e → e ≡ Memory
 shifted-refused from by i e h = split e (put-fits (λ v. cond (nat_lt v from) v (v + by)) (moved_rises from by) i h)
   where
-    split : (e : AffRefusal) → (coefficients_fit (shifted from by i) ≡ true) × (is_short (shifted from by i) ≡ true) → Refused (shifted from by i) e → e ≡ Memory
+    split : (e : AffRefusal) → (coefficients_fit (shifted from by i) ≡ true) × (is_short (shifted from by i) ≡ true) → Refused (shifted from by i) e
+        → e ≡ Memory
     split CoefficientTooLarge f r = absurd (let g = f.0 in cc)
     split IndexTooLong f r = absurd (let g = f.1 in let s = r.1 in cc)
     split NotAffine f r = absurd r
     split Memory f r = refl
 
 -- the same of what an operation answers
-pub refused_for_memory : (x : Items) (r : Result Aff AffRefusal) → ((e : AffRefusal) → Refused x e → e ≡ Memory) → MatchResult r (λ y. y ≡ x) (λ e. Refused x e) → MatchResult r (λ y. y ≡ x) (λ e. e ≡ Memory)
+pub refused_for_memory : (x : Items) (r : Result Aff AffRefusal) → ((e : AffRefusal) → Refused x e → e ≡ Memory) → MatchResult r (λ y. y ≡ x) (λ e. Refused x e)
+    → MatchResult r (λ y. y ≡ x) (λ e. e ≡ Memory)
 refused_for_memory x (Ok y) h m = m
 refused_for_memory x (Err e) h m = h e m

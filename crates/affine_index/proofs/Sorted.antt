@@ -38,7 +38,8 @@ module _ (Q : Item Atom → Type 0) (closed : Closed Q) where
   item_if-each true t rest q h = h
   item_if-each false t rest q h = (q refl, h)
 
-  pub onto-each : (a : Item Atom) (as' bs : List (Item Atom)) → Q a → EachItem Q bs → ((cs : List (Item Atom)) → EachItem Q cs → EachItem Q (merged as' cs)) → EachItem Q (onto a (merged as') bs)
+  pub onto-each : (a : Item Atom) (as' bs : List (Item Atom)) → Q a → EachItem Q bs → ((cs : List (Item Atom)) → EachItem Q cs → EachItem Q (merged as' cs))
+      → EachItem Q (onto a (merged as') bs)
   onto-each a as' [] qa hb h = (qa, h [] tt)
   onto-each a as' (b ∷ bs) qa hb h = by_order (atom_order a.atom b.atom) (onto-each a as' bs qa hb.1 h)
     where
@@ -73,7 +74,8 @@ item_if-sorted : (z : Bool) (t : Item Atom) (rest : List (Item Atom)) → EachIt
 item_if-sorted true t rest q h = h
 item_if-sorted false t rest q h = (q, h)
 
-onto-sorted : (a : Item Atom) (as' bs : List (Item Atom)) → EachItem (Before a.atom) as' → Sorted bs → ((cs : List (Item Atom)) → Sorted cs → Sorted (merged as' cs)) → Sorted (onto a (merged as') bs)
+onto-sorted : (a : Item Atom) (as' bs : List (Item Atom)) → EachItem (Before a.atom) as' → Sorted bs
+    → ((cs : List (Item Atom)) → Sorted cs → Sorted (merged as' cs)) → Sorted (onto a (merged as') bs)
 onto-sorted a as' [] sa sb h = (merged-each (Before a.atom) (before-closed a.atom) as' [] sa tt, h [] tt)
 onto-sorted a as' (b ∷ bs) sa sb h = by_order (atom_order a.atom b.atom) refl (onto-sorted a as' bs sa sb.1 h)
   where
@@ -82,7 +84,8 @@ onto-sorted a as' (b ∷ bs) sa sb h = by_order (atom_order a.atom b.atom) refl 
         (merged-each (Before a.atom) (before-closed a.atom) as' (b ∷ bs) sa (e, all_after a.atom b.atom bs e sb.0), h (b ∷ bs) sb)
     by_order Greater e later =
         let f : atom_order b.atom a.atom ≡ Less = turned a.atom b.atom e in
-        (onto-each (Before b.atom) (before-closed b.atom) a as' bs f sb.0 (λ cs hc. merged-each (Before b.atom) (before-closed b.atom) as' cs (all_after b.atom a.atom as' f sa) hc), later)
+        (onto-each (Before b.atom) (before-closed b.atom) a as' bs f sb.0
+            (λ cs hc. merged-each (Before b.atom) (before-closed b.atom) as' cs (all_after b.atom a.atom as' f sa) hc), later)
     by_order Equal e later =
         let same : b.atom ≡ a.atom = sym (atom_order-Equal a.atom b.atom e) in
         item_if-sorted (int_eq (a.coefficient +ℤ b.coefficient) (pos 0)) (added a b) (merged as' bs)

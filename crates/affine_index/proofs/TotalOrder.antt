@@ -62,13 +62,15 @@ write_map [] r = refl
 write_map (f ∷ fs) r = ap (λ x. pos 1 ∷ write f x) (write_map fs r)
 
 write-Mul : (fs : List Atom) (r : List ℤ) → write (Mul fs) r ≡ pos 3 ∷ write_all fs r
-write-Mul fs r = ap (λ f. f r) (ap write (sym (rolls-Mul fs)) ∙ fold-roll-Atom Writes Writes write_step write_items_step (Atom-F.Mul fs)) ∙ ap (λ x. pos 3 ∷ x) (write_map fs r)
+write-Mul fs r = ap (λ f. f r) (ap write (sym (rolls-Mul fs)) ∙ fold-roll-Atom Writes Writes write_step write_items_step (Atom-F.Mul fs))
+    ∙ ap (λ x. pos 3 ∷ x) (write_map fs r)
 
 abbrev write_all_terms : List (Item Atom) → Writes
 write_all_terms [] r = pos 0 ∷ r
 write_all_terms (t ∷ ts) r = pos 1 ∷ write t.atom (t.coefficient ∷ write_all_terms ts r)
 
-write_terms_map : (ts : List (Item Atom)) (r : List ℤ) → write_terms (map (λ t. record { atom = write t.atom; coefficient = t.coefficient }) ts) r ≡ write_all_terms ts r
+write_terms_map : (ts : List (Item Atom)) (r : List ℤ)
+    → write_terms (map (λ t. record { atom = write t.atom; coefficient = t.coefficient }) ts) r ≡ write_all_terms ts r
 write_terms_map [] r = refl
 write_terms_map (t ∷ ts) r = ap (λ x. pos 1 ∷ write t.atom (t.coefficient ∷ x)) (write_terms_map ts r)
 
@@ -104,7 +106,8 @@ abbrev ItemsWrite : Items → Type 0
 ItemsWrite i = (j : Items) (xs ys : List ℤ) → compare (write_items i xs) (write_items j ys) ≡ ordering_then (items_order i j) (compare xs ys)
 
 -- a fact of each atom from that of each kind of atom
-pub by_kind : (P : Atom → Type 0) → ((s : ℕ) → P (Size s)) → ((v : ℕ) → P (Var v)) → ((i : Items) (k : ℕ) → P (Div i k)) → ((fs : List Atom) → P (Mul fs)) → (a : Atom) → P a
+pub by_kind : (P : Atom → Type 0) → ((s : ℕ) → P (Size s)) → ((v : ℕ) → P (Var v)) → ((i : Items) (k : ℕ) → P (Div i k)) → ((fs : List Atom) → P (Mul fs))
+    → (a : Atom) → P a
 by_kind P s v d m = for_atoms P (λ _. Unit {0}) s v (λ i k _. d i k) (λ fs _. m fs) (λ ts c _. tt)
 
 size_case : (s : ℕ) → AtomWrites (Size s)
@@ -125,15 +128,18 @@ div_case : (i : Items) (k : ℕ) → ItemsWrite i → AtomWrites (Div i k)
 div_case i k h b xs ys = by_kind (λ b. compare (write (Div i k) xs) (write b ys) ≡ ordering_then (atom_order (Div i k) b) (compare xs ys))
     (λ t. simp (write-Size, write-Div, order-out, out-Size, out-Div))
     (λ w. simp (write-Var, write-Div, order-out, out-Var, out-Div))
-    (λ j l. simp (write-Div, order-out, out-Div, size_cmp) (ap (ordering_then (nat_cmp k l)) (h j xs ys) ∙ then_again (nat_cmp k l) (items_order i j) (compare xs ys)))
+    (λ j l. simp (write-Div, order-out, out-Div, size_cmp)
+        (ap (ordering_then (nat_cmp k l)) (h j xs ys) ∙ then_again (nat_cmp k l) (items_order i j) (compare xs ys)))
     (λ fs. simp (write-Div, write-Mul, order-out, out-Div, out-Mul)) b
 
-factors_write : (fs gs : List Atom) (xs ys : List ℤ) → Each AtomWrites fs → compare (write_all fs xs) (write_all gs ys) ≡ ordering_then (factors_order fs gs) (compare xs ys)
+factors_write : (fs gs : List Atom) (xs ys : List ℤ) → Each AtomWrites fs
+    → compare (write_all fs xs) (write_all gs ys) ≡ ordering_then (factors_order fs gs) (compare xs ys)
 factors_write [] [] xs ys h = refl
 factors_write [] (g ∷ gs) xs ys h = refl
 factors_write (f ∷ fs) [] xs ys h = refl
 factors_write (f ∷ fs) (g ∷ gs) xs ys h =
-    h.0 g (write_all fs xs) (write_all gs ys) ∙ ap (ordering_then (atom_order f g)) (factors_write fs gs xs ys h.1) ∙ then_again (atom_order f g) (factors_order fs gs) (compare xs ys)
+    h.0 g (write_all fs xs) (write_all gs ys) ∙ ap (ordering_then (atom_order f g)) (factors_write fs gs xs ys h.1)
+        ∙ then_again (atom_order f g) (factors_order fs gs) (compare xs ys)
 
 mul_case : (fs : List Atom) → Each AtomWrites fs → AtomWrites (Mul fs)
 mul_case fs h b xs ys = by_kind (λ b. compare (write (Mul fs) xs) (write b ys) ≡ ordering_then (atom_order (Mul fs) b) (compare xs ys))
@@ -142,7 +148,8 @@ mul_case fs h b xs ys = by_kind (λ b. compare (write (Mul fs) xs) (write b ys) 
     (λ j l. simp (write-Div, write-Mul, order-out, out-Div, out-Mul))
     (λ gs. simp (write-Mul) (factors_write fs gs xs ys h) ∙ ap (λ o. ordering_then o (compare xs ys)) (sym (order-Mul fs gs))) b
 
-terms_write : (ts us : List (Item Atom)) (xs ys : List ℤ) → EachTerm AtomWrites ts → compare (write_all_terms ts xs) (write_all_terms us ys) ≡ ordering_then (terms_order ts us) (compare xs ys)
+terms_write : (ts us : List (Item Atom)) (xs ys : List ℤ) → EachTerm AtomWrites ts
+    → compare (write_all_terms ts xs) (write_all_terms us ys) ≡ ordering_then (terms_order ts us) (compare xs ys)
 terms_write [] [] xs ys h = refl
 terms_write [] (u ∷ us) xs ys h = refl
 terms_write (t ∷ ts) [] xs ys h = refl

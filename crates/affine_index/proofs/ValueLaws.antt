@@ -79,7 +79,8 @@ module _ (s v : List ℕ) where
       (λ w is sum. let b = added-some y.terms (pos 0) w is in omega (arith, ints, b, sum)))
 
   pub value-agrees : (i : Items) (x : ℤ) → limited_value s v i ≡ Some x → x ≡ items_value s v i
-  value-agrees = ind-Items AtomAgrees ItemsAgree (λ x y is. subst (λ z. AtomAgrees (roll-Atom z)) is (atom_case y)) (λ x y is. subst (λ z. ItemsAgree (roll-Items z)) is (items_case y))
+  value-agrees = ind-Items AtomAgrees ItemsAgree (λ x y is. subst (λ z. AtomAgrees (roll-Atom z)) is (atom_case y))
+      (λ x y is. subst (λ z. ItemsAgree (roll-Items z)) is (items_case y))
 
 pub value-is : (s v : List ℕ) (i : Items) (o : Option ℤ) → o ≡ limited_value s v i → IfSome o (λ x. x ≡ items_value s v i)
 value-is s v i None e = tt

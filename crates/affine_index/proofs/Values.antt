@@ -9,7 +9,8 @@ use Rattle.std.proofs.lemmas.Int.{ints}
 use Rattle.std.proofs.Math.IntN.{zero-*ℤ, *ℤ-zero, *ℤ_comm}
 use Rattle.affine_index.specs.Form.{literal_form, of_atom}
 use Rattle.affine_index.specs.Order.{atom_order}
-use Rattle.affine_index.specs.Product.{atom_product, atom_products, atom_times, factor_onto, factor_onto_by, factors_of, merged_factors, product_of, product_of_all, term_products}
+use Rattle.affine_index.specs.Product.{atom_product, atom_products, atom_times, factor_onto, factor_onto_by, factors_of, merged_factors, product_of}
+use Rattle.affine_index.specs.Product.{product_of_all, term_products}
 use Rattle.affine_index.specs.Quotient.{item_of, quotient_atom, quotient_of, rest_part, rest_terms, whole_part, whole_terms}
 use Rattle.affine_index.specs.Sum.{add_up, difference_of, item_if, scaled, scaled_if, scaled_terms, sum_of}
 use Rattle.affine_index.specs.Value.{product, atom_step, items_step, atom_value, items_value, terms_value}
@@ -81,7 +82,8 @@ module _ (s w : List ℕ) where
 
   -- the difference with the second value added again is the first
   pub value-difference : (a b : Items) → items_value s w (difference_of a b) +ℤ items_value s w b ≡ items_value s w a
-  value-difference a b = omega (arith, ints, sum_of-value s w a (scaled (negsuc 0) b), value-scaled (negsuc 0) b, *ℤ_distrib (negsuc 0) (pos 1) (items_value s w b), one-times (items_value s w b), zero-*ℤ (items_value s w b))
+  value-difference a b = omega (arith, ints, sum_of-value s w a (scaled (negsuc 0) b), value-scaled (negsuc 0) b,
+      *ℤ_distrib (negsuc 0) (pos 1) (items_value s w b), one-times (items_value s w b), zero-*ℤ (items_value s w b))
 
   -- the values of forms, each with its coefficient
   abbrev pub each_value : List (Item Items) → ℤ
@@ -91,7 +93,8 @@ module _ (s w : List ℕ) where
   pub value-add_up : (ts : List (Item Items)) (start : Items) → items_value s w (add_up ts start) ≡ items_value s w start +ℤ each_value ts
   value-add_up [] start = omega (arith, ints)
   value-add_up (t ∷ ts) start =
-      omega (arith, ints, value-add_up ts (sum_of start (scaled t.coefficient t.atom)), sum_of-value s w start (scaled t.coefficient t.atom), value-scaled t.coefficient t.atom)
+      omega (arith, ints, value-add_up ts (sum_of start (scaled t.coefficient t.atom)), sum_of-value s w start (scaled t.coefficient t.atom),
+          value-scaled t.coefficient t.atom)
 
   value-onto : (a : Atom) (as' bs : List Atom) → ((cs : List Atom) → factors_value (merged_factors as' cs) ≡ factors_value as' *ℤ factors_value cs)
       → factors_value (factor_onto a (merged_factors as') bs) ≡ (atom_value s w a *ℤ factors_value as') *ℤ factors_value bs
@@ -102,7 +105,8 @@ module _ (s w : List ℕ) where
       front = ap (λ x. atom_value s w a *ℤ x) (h (b ∷ bs)) ∙ sym (*ℤ_assoc (atom_value s w a) (factors_value as') (factors_value (b ∷ bs)))
 
       by_order : (o : Ordering) → factors_value (factor_onto a (merged_factors as') bs) ≡ (atom_value s w a *ℤ factors_value as') *ℤ factors_value bs
-          → factors_value (factor_onto_by o a (merged_factors as') b bs (factor_onto a (merged_factors as') bs)) ≡ (atom_value s w a *ℤ factors_value as') *ℤ factors_value (b ∷ bs)
+          → factors_value (factor_onto_by o a (merged_factors as') b bs (factor_onto a (merged_factors as') bs)) ≡ (atom_value s w a *ℤ factors_value as') *ℤ
+              factors_value (b ∷ bs)
       by_order Less later = front
       by_order Equal later = front
       by_order Greater later = ap (λ x. atom_value s w b *ℤ x) later ∙ swap (atom_value s w b) (atom_value s w a *ℤ factors_value as') (factors_value bs)
@@ -133,7 +137,8 @@ module _ (s w : List ℕ) where
   value-atom_times : (a : Atom) (b : Items) → items_value s w (atom_times a b) ≡ atom_value s w a *ℤ items_value s w b
   value-atom_times a b =
       value-add_up (atom_products a b.terms) (scaled b.constant (of_atom a))
-      ∙ (λ k. (value-scaled b.constant (of_atom a) ∙ ap (λ x. b.constant *ℤ x) (value-of_atom a) ∙ *ℤ_comm b.constant (atom_value s w a)) k +ℤ value-atom_products a b.terms k)
+      ∙ (λ k. (value-scaled b.constant (of_atom a) ∙ ap (λ x. b.constant *ℤ x) (value-of_atom a) ∙ *ℤ_comm b.constant (atom_value s w a)) k
+          +ℤ value-atom_products a b.terms k)
       ∙ sym (times-plus (atom_value s w a) b.constant (terms_value s w b.terms))
       ∙ ap (λ x. atom_value s w a *ℤ x) (turn b.constant (terms_value s w b.terms) ∙ sym (items_value-is s w b))
     where
@@ -143,7 +148,8 @@ module _ (s w : List ℕ) where
   value-term_products : (ts : List (Item Atom)) (b : Items) → each_value (term_products ts b) ≡ terms_value s w ts *ℤ items_value s w b
   value-term_products [] b = sym (zero-*ℤ (items_value s w b))
   value-term_products (t ∷ ts) b =
-      (λ k. (ap (λ x. t.coefficient *ℤ x) (value-atom_times t.atom b) ∙ sym (*ℤ_assoc t.coefficient (atom_value s w t.atom) (items_value s w b))) k +ℤ value-term_products ts b k)
+      (λ k. (ap (λ x. t.coefficient *ℤ x) (value-atom_times t.atom b) ∙ sym (*ℤ_assoc t.coefficient (atom_value s w t.atom) (items_value s w b))) k
+          +ℤ value-term_products ts b k)
       ∙ sym (*ℤ_distrib (t.coefficient *ℤ atom_value s w t.atom) (terms_value s w ts) (items_value s w b))
 
   pub value-product : (a b : Items) → items_value s w (product_of a b) ≡ items_value s w a *ℤ items_value s w b
@@ -156,14 +162,16 @@ module _ (s w : List ℕ) where
       turn : (x y : ℤ) → x +ℤ y ≡ y +ℤ x
       turn x y = omega (arith, ints)
 
-  value-item_if : (z : Bool) (t : Item Atom) (rest : List (Item Atom)) → (z ≡ true → t.coefficient ≡ pos 0) → terms_value s w (item_if z t rest) ≡ (t.coefficient *ℤ atom_value s w t.atom) +ℤ terms_value s w rest
+  value-item_if : (z : Bool) (t : Item Atom) (rest : List (Item Atom)) → (z ≡ true → t.coefficient ≡ pos 0)
+      → terms_value s w (item_if z t rest) ≡ (t.coefficient *ℤ atom_value s w t.atom) +ℤ terms_value s w rest
   value-item_if true t rest h = omega (arith, ints, ap (λ c. c *ℤ atom_value s w t.atom) (h refl), zero-*ℤ (atom_value s w t.atom))
   value-item_if false t rest h = refl
 
   value-item_of : (a : Atom) (c : ℤ) (rest : List (Item Atom)) → terms_value s w (item_of a c rest) ≡ (c *ℤ atom_value s w a) +ℤ terms_value s w rest
   value-item_of a c rest = value-item_if (int_eq c (pos 0)) (record { atom = a; coefficient = c }) rest (int_eq-zero c)
 
-  value-terms_parts : (k : ℕ) (ts : List (Item Atom)) → 0 < k → (pos k *ℤ terms_value s w (whole_terms k ts)) +ℤ terms_value s w (rest_terms k ts) ≡ terms_value s w ts
+  value-terms_parts : (k : ℕ) (ts : List (Item Atom)) → 0 < k
+      → (pos k *ℤ terms_value s w (whole_terms k ts)) +ℤ terms_value s w (rest_terms k ts) ≡ terms_value s w ts
   value-terms_parts k [] h = omega (arith, ints, *ℤ-zero (pos k))
   value-terms_parts k (t ∷ ts) h =
       let q = int_div_euclid t.coefficient (pos k) in
@@ -171,15 +179,18 @@ module _ (s w : List ℕ) where
       let x = atom_value s w t.atom in
       let a = terms_value s w (whole_terms k ts) in
       (λ j. (pos k *ℤ value-item_of t.atom q (whole_terms k ts) j) +ℤ value-item_of t.atom r (rest_terms k ts) j)
-      ∙ omega (arith, ints, times-plus (pos k) (q *ℤ x) a, *ℤ_assoc (pos k) q x, value-terms_parts k ts h, *ℤ_distrib (pos k *ℤ q) r x, ap (λ c. c *ℤ x) (quotient-rest k t.coefficient h))
+      ∙ omega (arith, ints, times-plus (pos k) (q *ℤ x) a, *ℤ_assoc (pos k) q x, value-terms_parts k ts h, *ℤ_distrib (pos k *ℤ q) r x,
+          ap (λ c. c *ℤ x) (quotient-rest k t.coefficient h))
 
   value-parts : (k : ℕ) (i : Items) → 0 < k → (pos k *ℤ items_value s w (whole_part i k)) +ℤ items_value s w (rest_part i k) ≡ items_value s w i
   value-parts k i h =
       let q = int_div_euclid i.constant (pos k) in
       let a = terms_value s w (whole_terms k i.terms) in
-      omega (arith, ints, ap (λ x. pos k *ℤ x) (items_value-is s w (whole_part i k)), items_value-is s w (rest_part i k), items_value-is s w i, times-plus (pos k) a q, value-terms_parts k i.terms h, quotient-rest k i.constant h)
+      omega (arith, ints, ap (λ x. pos k *ℤ x) (items_value-is s w (whole_part i k)), items_value-is s w (rest_part i k), items_value-is s w i,
+          times-plus (pos k) a q, value-terms_parts k i.terms h, quotient-rest k i.constant h)
 
-  value-quotient_atom : (ts : List (Item Atom)) (c : ℤ) (k : ℕ) → (ts ≡ [] → int_div_euclid c (pos k) ≡ pos 0) → items_value s w (quotient_atom ts c k) ≡ int_div_euclid (items_value s w (record { terms = ts; constant = c })) (pos k)
+  value-quotient_atom : (ts : List (Item Atom)) (c : ℤ) (k : ℕ) → (ts ≡ [] → int_div_euclid c (pos k) ≡ pos 0)
+      → items_value s w (quotient_atom ts c k) ≡ int_div_euclid (items_value s w (record { terms = ts; constant = c })) (pos k)
   value-quotient_atom [] c k h = value-literal (pos 0) ∙ sym (h refl) ∙ ap (λ x. int_div_euclid x (pos k)) (sym (value-literal c))
   value-quotient_atom (t ∷ ts) c k h = value-of_atom (Div (record { terms = t ∷ ts; constant = c }) k) ∙ value-Div (record { terms = t ∷ ts; constant = c }) k
 

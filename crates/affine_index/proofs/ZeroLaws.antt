@@ -67,4 +67,5 @@ module _ (s v : List ℕ) where
       (a.0 + b.0, items_value-is s v i ∙ (λ j. a.1 j +ℤ b.1 j))
 
   pub atom_natural : (a : Atom) → AtomNatural a
-  atom_natural = for_atoms AtomNatural FormNatural (λ k o. (slice_index s k, value-Size s v k)) (λ k o. (slice_index v k, value-Var s v k)) div_natural mul_natural form_natural
+  atom_natural = for_atoms AtomNatural FormNatural (λ k o. (slice_index s k, value-Size s v k)) (λ k o. (slice_index v k, value-Var s v k)) div_natural
+      mul_natural form_natural

@@ -12,8 +12,10 @@ use Rattle.affine_index.specs.declared.form.Items.{Items}
 abbrev pub AtomsAtLeastZero : Type 0
 AtomsAtLeastZero = (a : Atom) (sizes vars : List ℕ) → atom_is_ordered a ≡ true → (n : ℕ) × (atom_value sizes vars a ≡ pos n)
 
--- where the magnitude at maxima of at least 1 is within a limit, the text computes the value at sizes and variables within the maxima, and no partial result passes the limit in size
+-- where the magnitude at maxima of at least 1 is within a limit, the text computes the value at sizes and variables within the maxima, and no partial result
+-- passes the limit in size
 abbrev pub PrintsWithin : Items → Type 0
 PrintsWithin i =
     (limit : ℕ) (sizes vars maxima vars_maxima : List ℕ) → WithinMaxima sizes maxima → WithinMaxima vars vars_maxima
-    → items_scoped (length maxima) (length vars_maxima) i ≡ true → magnitude maxima vars_maxima i ≤ limit → printed_value limit sizes vars i ≡ Some (items_value sizes vars i)
+    → items_scoped (length maxima) (length vars_maxima) i ≡ true → magnitude maxima vars_maxima i ≤ limit
+        → printed_value limit sizes vars i ≡ Some (items_value sizes vars i)

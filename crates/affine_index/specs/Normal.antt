@@ -129,7 +129,8 @@ abbrev pub has_items : List (Item Atom) → Bool
 has_items [] = false
 has_items (t ∷ ts) = true
 
--- whether an atom is one of a normal form, as far as its own level tells: a quotient of a form that is no constant, with its numbers in 0..k-1, by k of at least 2;
+-- whether an atom is one of a normal form, as far as its own level tells: a quotient of a form that is no constant, with its numbers in 0..k-1, by k of at
+-- least 2;
 -- a product of two or more base atoms in order, of which at most one holds an index variable
 abbrev pub layer_good : Atom-F Atom Items → Bool
 layer_good (Atom-F.Size s) = true

@@ -23,7 +23,8 @@ terms_against [] (b ∷ bs) = Less
 terms_against (f ∷ fs) [] = Greater
 terms_against (f ∷ fs) (b ∷ bs) = ordering_then (ordering_then (f.atom b.atom) (int_cmp f.coefficient b.coefficient)) (terms_against fs bs)
 
--- sizes before variables before quotients before products; sizes by number, variables by falling number, quotients by divisor and then dividend, products by their factors
+-- sizes before variables before quotients before products; sizes by number, variables by falling number, quotients by divisor and then dividend, products by
+-- their factors
 abbrev pub against : Atom-F (Atom → Ordering) (Items → Ordering) → Atom-F Atom Items → Ordering
 against (Atom-F.Size s) (Atom-F.Size t) = nat_cmp s t
 against (Atom-F.Size s) _ = Less

@@ -1,5 +1,7 @@
--- The value of a form as its text is computed: the items with positive coefficients in order and a positive constant are added, then the others taken away, each item its coefficient's size and then its factors.
-use Rattle.std.specs.Prelude.{ℕ, ◌<◌, ◌≤◌, length, List, [], ◌∷◌, slice_index, ℤ, pos, negsuc, ◌+ℤ◌, ◌-ℤ◌, ◌*ℤ◌, Option, Some, None, Bool, false, if◌then◌else◌, nat_le}
+-- The value of a form as its text is computed: the items with positive coefficients in order and a positive constant are added, then the others taken away,
+-- each item its coefficient's size and then its factors.
+use Rattle.std.specs.Prelude.{ℕ, ◌<◌, ◌≤◌, length, List, [], ◌∷◌, slice_index, ℤ, pos, negsuc, ◌+ℤ◌, ◌-ℤ◌, ◌*ℤ◌, Option, Some, None, Bool, false, if◌then◌else◌}
+use Rattle.std.specs.Prelude.{nat_le}
 use Rattle.std.specs.Option.{option_and_then}
 use Rattle.std.specs.Int.{int_div_euclid}
 use Rattle.std.specs.Int.RustNames.{unsigned_abs}
@@ -65,7 +67,8 @@ module _ (limit : ℕ) where
     -- the items and the constant in the order of the text
     abbrev pub printed_items_step : Items-F (ℤ → Option ℤ) (Option ℤ) → Option ℤ
     printed_items_step i =
-        option_and_then (λ a. option_and_then (λ b. option_and_then (λ c. take_constant i.constant c) (take_others i.terms b)) (add_constant i.constant a)) (add_positive i.terms (pos 0))
+        option_and_then (λ a. option_and_then (λ b. option_and_then (λ c. take_constant i.constant c) (take_others i.terms b)) (add_constant i.constant a))
+            (add_positive i.terms (pos 0))
 
     -- a number times an atom, where no partial result passes the limit
     abbrev pub printed_times : Atom → ℤ → Option ℤ

@@ -1,5 +1,6 @@
 -- Forms that are not large are exact at values within the maxima.
-use Rattle.std.proofs.Common.{◌≡◌, ℕ, zero, suc, ◌-◌, ◌^◌, ◌<◌, ◌≤◌, List, [], ◌∷◌, length, Bool, true, false, ◌||◌, not, nat_le, nat_lt, max, Option, Some, None, refl, ap, sym, ◌∙◌, subst, arith, if◌then◌else◌}
+use Rattle.std.proofs.Common.{◌≡◌, ℕ, zero, suc, ◌-◌, ◌^◌, ◌<◌, ◌≤◌, List, [], ◌∷◌, length, Bool, true, false, ◌||◌, not, nat_le, nat_lt, max, Option, Some}
+use Rattle.std.proofs.Common.{None, refl, ap, sym, ◌∙◌, subst, arith, if◌then◌else◌}
 use Rattle.std.specs.Prelude.{ℤ, pos, negsuc, is_some}
 use Rattle.std.specs.Int.RustNames.{unsigned_abs}
 use Rattle.std.proofs.lemmas.Bool.{and_from, and_parts, lt-ltb, ltb-true, or_parts, true≢false}
@@ -19,7 +20,8 @@ use Rattle.term_tree.specs.Shape.{Extents}
 use Rattle.term_tree.specs.declared.term.InputDecl.{InputDecl}
 use Rattle.term_tree.specs.Modules.{inputs_scoped}
 use Rattle.atl_meaning.specs.Exact.{all_below, all_counted, all_exact, inputs_counted, is_counted, is_exact}
-use Rattle.atl_meaning.specs.Words.{any_large, any_large_comparison, at_least_one, first_big_input, first_of, is_large, largest_index, too_big, words_at, words_of}
+use Rattle.atl_meaning.specs.Words.{any_large, any_large_comparison, at_least_one, first_big_input, first_of, is_large, largest_index, too_big, words_at}
+use Rattle.atl_meaning.specs.Words.{words_of}
 use Rattle.atl_meaning.proofs.FormBounds.{form-fits}
 use Rattle.affine_index.proofs.MagnitudeBounds.{form-most}
 
@@ -62,10 +64,12 @@ module _ (s : List ℕ) where
   floor-length = length-map s (λ n. max n 1)
 
   -- the sizes and index variables that a form names are among the maxima
-  scoped-there : (r vars : List ℕ) (x : Items) → length r ≡ length vars → items_scoped (length s) (length r) x ≡ true → items_scoped (length (at_least_one s)) (length vars) x ≡ true
+  scoped-there : (r vars : List ℕ) (x : Items) → length r ≡ length vars → items_scoped (length s) (length r) x ≡ true
+      → items_scoped (length (at_least_one s)) (length vars) x ≡ true
   scoped-there r vars x same g = ap (λ k. items_scoped k (length vars) x) floor-length ∙ ap (λ k. items_scoped (length s) k x) (sym same) ∙ g
 
-  pub exact-of : (r vars : List ℕ) (x : Items) → length r ≡ length vars → WithinMaxima r vars → items_scoped (length s) (length r) x ≡ true → is_large (at_least_one s) vars x ≡ false → is_exact s r x ≡ true
+  pub exact-of : (r vars : List ℕ) (x : Items) → length r ≡ length vars → WithinMaxima r vars → items_scoped (length s) (length r) x ≡ true
+      → is_large (at_least_one s) vars x ≡ false → is_exact s r x ≡ true
   exact-of r vars x same w g l = and_from (items_scoped (length s) (length r) x) (not (is_normal x) || is_some (limited_value s r x)) g (by (is_normal x) refl)
     where
       room : 2 ^ 63 < 2 ^ 120
@@ -76,10 +80,12 @@ module _ (s : List ℕ) where
 
       by : (b : Bool) → is_normal x ≡ b → (not b || is_some (limited_value s r x)) ≡ true
       by false e = refl
-      by true e = ap is_some (form-fits (2 ^ 63) room s r (at_least_one s) vars (within-floor s) w x (and_parts (is_ordered x) _ e).0 (scoped-there r vars x same g) (most (magnitude (at_least_one s) vars x) l))
+      by true e = ap is_some (form-fits (2 ^ 63) room s r (at_least_one s) vars (within-floor s) w x (and_parts (is_ordered x) _ e).0
+          (scoped-there r vars x same g) (most (magnitude (at_least_one s) vars x) l))
 
   extent-most : (n : Items) → items_scoped (length s) 0 n ≡ true → extent n s ≤ magnitude (at_least_one s) [] n
-  extent-most n g = omega (arith, count-most (items_value s [] n), form-most s [] (at_least_one s) [] (within-floor s) within-none n (scoped-there [] [] n refl g))
+  extent-most n g = omega (arith, count-most (items_value s [] n),
+      form-most s [] (at_least_one s) [] (within-floor s) within-none n (scoped-there [] [] n refl g))
 
   pub extent-small : (n : Items) → items_scoped (length s) 0 n ≡ true → is_large (at_least_one s) [] n ≡ false → extent n s < 2 ^ 63
   extent-small n g l = omega (arith, extent-most n g, small-of (magnitude (at_least_one s) [] n) l)
@@ -90,13 +96,15 @@ module _ (s : List ℕ) where
       (lt-ltb (extent n s) (2 ^ 63) (extent-small n g l))
 
   -- a value below an extent is within the maximum of its index variable
-  pub index-within : (n : Items) (i : ℕ) → items_scoped (length s) 0 n ≡ true → is_large (at_least_one s) [] n ≡ false → i < extent n s → (i ≤ largest_index s n) × (1 ≤ largest_index s n)
+  pub index-within : (n : Items) (i : ℕ) → items_scoped (length s) 0 n ≡ true → is_large (at_least_one s) [] n ≡ false → i < extent n s
+      → (i ≤ largest_index s n) × (1 ≤ largest_index s n)
   index-within n i g l h =
       let a = extent-most n g in
       let b = small-of (magnitude (at_least_one s) [] n) l in
       (omega (arith, a, b, h), omega (arith, a, b, h))
 
-  pub all-exact-of : (r vars : List ℕ) (cs : List Cmp) → length r ≡ length vars → WithinMaxima r vars → all_scoped (length s) (length r) cs ≡ true → any_large_comparison (at_least_one s) vars cs ≡ false → all_exact s r cs ≡ true
+  pub all-exact-of : (r vars : List ℕ) (cs : List Cmp) → length r ≡ length vars → WithinMaxima r vars → all_scoped (length s) (length r) cs ≡ true
+      → any_large_comparison (at_least_one s) vars cs ≡ false → all_exact s r cs ≡ true
   all-exact-of r vars [] same w g l = refl
   all-exact-of r vars (c ∷ cs) same w g l =
       let p = and_parts (items_scoped (length s) (length r) (cmp_form c)) (all_scoped (length s) (length r) cs) g in
@@ -119,7 +127,8 @@ module _ (s : List ℕ) where
   none-by false w later h = (refl, h)
 
   -- where neither a node nor a later one is too big, nothing in the node is large
-  pub none-at : (ns : Extents) (large : Bool) (later : Option ℕ) → too_big (words_at s ns large) later ≡ None → (large ≡ false) × (any_large (at_least_one s) ns ≡ false) × (later ≡ None)
+  pub none-at : (ns : Extents) (large : Bool) (later : Option ℕ) → too_big (words_at s ns large) later ≡ None → (large ≡ false)
+      × (any_large (at_least_one s) ns ≡ false) × (later ≡ None)
   none-at ns large later h =
       let p = none-by (nat_lt (2 ^ 24) (words_at s ns large)) (words_at s ns large) later h in
       let q = or_parts large (any_large (at_least_one s) ns) (large-words (large || any_large (at_least_one s) ns) _ p.0) in

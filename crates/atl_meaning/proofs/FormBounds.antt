@@ -61,16 +61,20 @@ module _ (limit : ℕ) (small : limit < 2 ^ 120) (s v maxima most : List ℕ) (w
   Scoped a = atom_scoped (length maxima) (length most) a ≡ true
 
   abbrev AtomFits : Atom → Type 0
-  AtomFits a = Ordered a → Scoped a → (c : ℤ) (b : ℕ) → 1 ≤ b → unsigned_abs c ≤ b → b * atom_magnitude maxima most a ≤ limit → times s v a c ≡ Some (c *ℤ atom_value s v a)
+  AtomFits a = Ordered a → Scoped a → (c : ℤ) (b : ℕ) → 1 ≤ b → unsigned_abs c ≤ b → b * atom_magnitude maxima most a ≤ limit
+      → times s v a c ≡ Some (c *ℤ atom_value s v a)
 
   abbrev FormFits : Items → Type 0
-  FormFits i = is_ordered i ≡ true → items_scoped (length maxima) (length most) i ≡ true → magnitude maxima most i ≤ limit → limited_value s v i ≡ Some (items_value s v i)
+  FormFits i = is_ordered i ≡ true → items_scoped (length maxima) (length most) i ≡ true → magnitude maxima most i ≤ limit
+      → limited_value s v i ≡ Some (items_value s v i)
 
   up : (a : Atom) → Ordered a → Scoped a → UpTo (atom_value s v a) (atom_magnitude maxima most a)
   up = atom_up s v maxima most ws wv
 
-  plain : (a : Atom) (c : ℤ) (b : ℕ) → Ordered a → Scoped a → unsigned_abs c ≤ b → b * atom_magnitude maxima most a ≤ limit → limited (c *ℤ atom_value s v a) ≡ Some (c *ℤ atom_value s v a)
-  plain a c b o g p q = limited-is (c *ℤ atom_value s v a) (omega (arith, product-size c (atom_value s v a) b (atom_magnitude maxima most a) p (up a o g), q, small))
+  plain : (a : Atom) (c : ℤ) (b : ℕ) → Ordered a → Scoped a → unsigned_abs c ≤ b → b * atom_magnitude maxima most a ≤ limit
+      → limited (c *ℤ atom_value s v a) ≡ Some (c *ℤ atom_value s v a)
+  plain a c b o g p q = limited-is (c *ℤ atom_value s v a)
+      (omega (arith, product-size c (atom_value s v a) b (atom_magnitude maxima most a) p (up a o g), q, small))
 
   size_fits : (k : ℕ) → AtomFits (Size k)
   size_fits k o g c b one p q = times-Size s v k c ∙ ap (λ x. limited (c *ℤ x)) (sym (value-Size s v k)) ∙ plain (Size k) c b o g p q
@@ -82,7 +86,8 @@ module _ (limit : ℕ) (small : limit < 2 ^ 120) (s v maxima most : List ℕ) (w
   div_fits i k h o g c b one p q =
       let inside : magnitude maxima most i ≤ limit = omega (arith, alone b (atom_magnitude maxima most (Div i k)) one, q, mag-Div maxima most i k) in
       times-Div s v i k c
-      ∙ ap (option_and_then (λ w. limited (c *ℤ int_div_euclid w (pos k)))) (h (ordered-Div i k o).1 (sym (scoped-Div (length maxima) (length most) i k) ∙ g) inside)
+      ∙ ap (option_and_then (λ w. limited (c *ℤ int_div_euclid w (pos k))))
+          (h (ordered-Div i k o).1 (sym (scoped-Div (length maxima) (length most) i k) ∙ g) inside)
       ∙ ap (λ x. limited (c *ℤ x)) (sym (value-Div s v i k)) ∙ plain (Div i k) c b o g p q
 
   abbrev ScopedAll : List Atom → Type 0
@@ -94,7 +99,8 @@ module _ (limit : ℕ) (small : limit < 2 ^ 120) (s v maxima most : List ℕ) (w
       let gs = and_parts (atom_scoped (length maxima) (length most) f) (all_true (map (atom_scoped (length maxima) (length most)) fs)) g in
       least (atom_magnitude maxima most f) (factors_magnitude maxima most fs) (up f o.0 gs.0).positive (factors-one fs o.1 gs.1)
 
-  through-fits : (fs : List Atom) → Each AtomFits fs → Each Ordered fs → ScopedAll fs → (c : ℤ) (b : ℕ) → 1 ≤ b → unsigned_abs c ≤ b → b * factors_magnitude maxima most fs ≤ limit
+  through-fits : (fs : List Atom) → Each AtomFits fs → Each Ordered fs → ScopedAll fs → (c : ℤ) (b : ℕ) → 1 ≤ b → unsigned_abs c ≤ b
+      → b * factors_magnitude maxima most fs ≤ limit
       → times_all s v fs c ≡ Some (c *ℤ factors_value s v fs)
   through-fits [] h o g c b one p q = ap Some (back c)
     where
@@ -114,7 +120,8 @@ module _ (limit : ℕ) (small : limit < 2 ^ 120) (s v maxima most : List ℕ) (w
   mul_fits : (fs : List Atom) → Each AtomFits fs → AtomFits (Mul fs)
   mul_fits fs h o g c b one p q =
       times-Mul s v fs c
-      ∙ through-fits fs h (mul_parts fs o).good.ordered (sym (scoped-Mul (length maxima) (length most) fs) ∙ g) c b one p (omega (arith, ap (λ n. b * n) (mag-Mul maxima most fs), q))
+      ∙ through-fits fs h (mul_parts fs o).good.ordered (sym (scoped-Mul (length maxima) (length most) fs) ∙ g) c b one p
+          (omega (arith, ap (λ n. b * n) (mag-Mul maxima most fs), q))
       ∙ ap (λ x. Some (c *ℤ x)) (sym (value-Mul s v fs))
 
   abbrev ScopedTerms : List (Item Atom) → Type 0
@@ -127,7 +134,8 @@ module _ (limit : ℕ) (small : limit < 2 ^ 120) (s v maxima most : List ℕ) (w
   item_size t = unsigned_abs t.coefficient * atom_magnitude maxima most t.atom
 
   item-most : (t : Item Atom) → Ordered t.atom → Scoped t.atom → unsigned_abs (item t) ≤ item_size t
-  item-most t o g = product-size t.coefficient (atom_value s v t.atom) (unsigned_abs t.coefficient) (atom_magnitude maxima most t.atom) (omega arith) (up t.atom o g)
+  item-most t o g = product-size t.coefficient (atom_value s v t.atom) (unsigned_abs t.coefficient) (atom_magnitude maxima most t.atom) (omega arith)
+      (up t.atom o g)
 
   item-fits : (t : Item Atom) → AtomFits t.atom → GoodItem t → Scoped t.atom → item_size t ≤ limit → times s v t.atom t.coefficient ≡ Some (item t)
   item-fits t h o g q = h o.0 g t.coefficient (unsigned_abs t.coefficient) (nonzero t.coefficient o.1) (omega arith) q
@@ -138,7 +146,8 @@ module _ (limit : ℕ) (small : limit < 2 ^ 120) (s v maxima most : List ℕ) (w
   same : (z : ℤ) → z ≡ z +ℤ pos 0
   same z = omega (arith, ints)
 
-  added-fits : (ts : List (Item Atom)) (total : ℤ) → EachTerm AtomFits ts → EachItem GoodItem ts → ScopedTerms ts → unsigned_abs total + terms_magnitude maxima most ts ≤ limit
+  added-fits : (ts : List (Item Atom)) (total : ℤ) → EachTerm AtomFits ts → EachItem GoodItem ts → ScopedTerms ts
+      → unsigned_abs total + terms_magnitude maxima most ts ≤ limit
       → added_all s v ts total ≡ Some (total +ℤ terms_value s v ts)
   added-fits [] total h o g q = ap Some (same total)
   added-fits (t ∷ ts) total h o g q =

@@ -1,5 +1,6 @@
 -- Lists that grow at their end.
-use Rattle.std.proofs.Common.{◌≡◌, ℕ, zero, suc, ◌+◌, List, [], ◌∷◌, ◌++◌, ◌-◌, ◌<◌, ◌≤◌, ℤ, pos, negsuc, length, get_or, take, drop, map, append_assoc, append-nil, arith, refl, ap, sym, ◌∙◌, add-one}
+use Rattle.std.proofs.Common.{◌≡◌, ℕ, zero, suc, ◌+◌, List, [], ◌∷◌, ◌++◌, ◌-◌, ◌<◌, ◌≤◌, ℤ, pos, negsuc, length, get_or, take, drop, map, append_assoc}
+use Rattle.std.proofs.Common.{append-nil, arith, refl, ap, sym, ◌∙◌, add-one}
 use Rattle.atl_meaning.specs.Lists.{rest_of}
 use Rattle.term_tree.specs.Tensors.{Tensor, copies, drop_last, from_rows, joined, plus_places, rows_of, tabulate, total, zeros}
 use Rattle.term_tree.specs.Meaning.{chunks, columns, row_at, tail_of}
@@ -51,14 +52,17 @@ map-length f (x ∷ xs) = ap suc (map-length f xs)
 pub map-drop_last : {A B : Type 0} → (f : A → B) (n : ℕ) (xs : List A) → map f (drop_last n xs) ≡ drop_last n (map f xs)
 map-drop_last f n xs = map-take f (length xs - n) xs ∙ ap (λ k. take (k - n) (map f xs)) (sym (map-length f xs))
 
-joined-suc : (f : Value → Tensor) (xs : List Value) (k : ℕ) (x : Value) → k < length xs → joined (map f (take (suc k) xs)) ≡ joined (map f (take k xs)) ++ rows_of (f (get_or xs k x))
+joined-suc : (f : Value → Tensor) (xs : List Value) (k : ℕ) (x : Value) → k < length xs
+    → joined (map f (take (suc k) xs)) ≡ joined (map f (take k xs)) ++ rows_of (f (get_or xs k x))
 joined-suc f [] k x h = absurd (omega (arith, h))
 joined-suc f (y ∷ xs) zero x h = append-nil (rows_of (f y))
-joined-suc f (y ∷ xs) (suc k) x h = ap (λ zs. rows_of (f y) ++ zs) (joined-suc f xs k x (omega (arith, h))) ∙ sym (append_assoc (rows_of (f y)) (joined (map f (take k xs))) (rows_of (f (get_or xs k x))))
+joined-suc f (y ∷ xs) (suc k) x h = ap (λ zs. rows_of (f y) ++ zs) (joined-suc f xs k x (omega (arith, h)))
+    ∙ sym (append_assoc (rows_of (f y)) (joined (map f (take k xs))) (rows_of (f (get_or xs k x))))
 
 pub joined-next : (f : Value → Tensor) (xs : List Value) (k : ℕ) (x : Value) → k < length xs → x ≡ get_or xs k x
     → joined (map f (take (k + 1) xs)) ≡ joined (map f (take k xs)) ++ rows_of (f x)
-joined-next f xs k x h e = ap (λ i. joined (map f (take i xs))) (add-one k) ∙ joined-suc f xs k x h ∙ ap (λ y. joined (map f (take k xs)) ++ rows_of (f y)) (sym e)
+joined-next f xs k x h e = ap (λ i. joined (map f (take i xs))) (add-one k) ∙ joined-suc f xs k x h
+    ∙ ap (λ y. joined (map f (take k xs)) ++ rows_of (f y)) (sym e)
 
 -- no row of a zero tensor is another than zeros
 pub zeros-row : (ds : List ℕ) (i : ℤ) → row_at (rows_of (zeros ds)) i (zeros (tail_of ds)) ≡ zeros (tail_of ds)
@@ -95,11 +99,13 @@ total-all z f n = (λ i. total z (tabulate (none n i) (λ j. f (zeroth j i))))
     zeroth : (j : ℕ) → 0 + j ≡ j
     zeroth j = omega arith
 
-pub columns-last : (n : ℕ) (z : Tensor) (rows : List Tensor) → columns (n + 1) z rows ≡ columns n z rows ++ from_rows (map (λ row. get_or (rows_of row) n z) rows) ∷ []
+pub columns-last : (n : ℕ) (z : Tensor) (rows : List Tensor)
+    → columns (n + 1) z rows ≡ columns n z rows ++ from_rows (map (λ row. get_or (rows_of row) n z) rows) ∷ []
 columns-last n z rows = tabulate-last n (λ j. from_rows (map (λ row. get_or (rows_of row) j z) rows))
 
 -- the next chunk of those that are left
-pub chunks-next : (n c k : ℕ) (z : Tensor) (rows : List Tensor) → c < n → chunks (n - c) k z rows ≡ from_rows (tabulate k (λ i. get_or rows i z)) ∷ chunks (n - (c + 1)) k z (drop k rows)
+pub chunks-next : (n c k : ℕ) (z : Tensor) (rows : List Tensor) → c < n
+    → chunks (n - c) k z rows ≡ from_rows (tabulate k (λ i. get_or rows i z)) ∷ chunks (n - (c + 1)) k z (drop k rows)
 chunks-next n c k z rows h = let e : n - c ≡ suc (n - (c + 1)) = omega arith in ap (λ m. chunks m k z rows) e
 
 -- the item at a place, and those behind it

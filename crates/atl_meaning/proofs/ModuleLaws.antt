@@ -1,5 +1,6 @@
 -- Sound modules at allowed sizes.
-use Rattle.std.proofs.Common.{◌≡◌, ℕ, zero, suc, ◌+◌, ◌<◌, ◌≤◌, min, List, [], ◌∷◌, ◌++◌, length, map, take, get_or, add-one, arith, refl, ap, sym, ◌∙◌, subst, true, ◌&&◌, None}
+use Rattle.std.proofs.Common.{◌≡◌, ℕ, zero, suc, ◌+◌, ◌<◌, ◌≤◌, min, List, [], ◌∷◌, ◌++◌, length, map, take, get_or, add-one, arith, refl, ap, sym, ◌∙◌, subst}
+use Rattle.std.proofs.Common.{true, ◌&&◌, None}
 use Rattle.std.specs.Prelude.{IsOk, All}
 use Rattle.std.proofs.lemmas.Bool.{and_parts}
 use Rattle.affine_index.specs.Condition.{all_scoped}
@@ -8,7 +9,8 @@ use Rattle.term_tree.specs.declared.term.Module.{Module}
 use Rattle.term_tree.specs.declared.term.OutputDecl.{OutputDecl}
 use Rattle.term_tree.specs.declared.term.SizeDecl.{SizeDecl}
 use Rattle.term_tree.specs.Meaning.{Bound, den, extents_of}
-use Rattle.term_tree.specs.Modules.{Allowed, AreInputs, IsSound, IsWithin, extents_at, extents_scoped, input_shapes, inputs_bound, inputs_scoped, module_den, outputs_scoped}
+use Rattle.term_tree.specs.Modules.{Allowed, AreInputs, IsSound, IsWithin, extents_at, extents_scoped, input_shapes, inputs_bound, inputs_scoped, module_den}
+use Rattle.term_tree.specs.Modules.{outputs_scoped}
 use Rattle.term_tree.specs.Scope.{term_scoped}
 use Rattle.term_tree.specs.Shape.{Extents, shape_of}
 use Rattle.term_tree.specs.Tensors.{Tensor}
@@ -45,7 +47,8 @@ module _ (m : Module) (s : List ℕ) (sound : IsSound m) (allowed : Allowed m s)
 
   scoped : (inputs_scoped (length m.sizes) m.inputs ≡ true) × (outputs_scoped (length m.sizes) (length m.inputs) m.outputs ≡ true)
   scoped =
-      let p = and_parts (all_scoped (length m.sizes) 0 m.assumes) (inputs_scoped (length m.sizes) m.inputs && outputs_scoped (length m.sizes) (length m.inputs) m.outputs) sound.scoped in
+      let p = and_parts (all_scoped (length m.sizes) 0 m.assumes)
+          (inputs_scoped (length m.sizes) m.inputs && outputs_scoped (length m.sizes) (length m.inputs) m.outputs) sound.scoped in
       and_parts (inputs_scoped (length m.sizes) m.inputs) (outputs_scoped (length m.sizes) (length m.inputs) m.outputs) p.1
 
   pub inputs-ready : inputs_scoped (length s) m.inputs ≡ true
@@ -61,7 +64,8 @@ module _ (m : Module) (s : List ℕ) (sound : IsSound m) (allowed : Allowed m s)
   pub outputs-ready : outputs_ready (length s) m.outputs ≡ true
   outputs-ready = subst (λ (k : ℕ). outputs_ready k m.outputs ≡ true) count (each-ready (length m.sizes) (length m.inputs) m.outputs scoped.1)
 
-  each-big : (os : List OutputDecl) (ts : List Extents) → All (λ (o : OutputDecl). IsOk (shape_of o.term ts)) os → outputs_surveyed s os ts ≡ first_big_output os s ts
+  each-big : (os : List OutputDecl) (ts : List Extents) → All (λ (o : OutputDecl). IsOk (shape_of o.term ts)) os
+      → outputs_surveyed s os ts ≡ first_big_output os s ts
   each-big [] ts h = refl
   each-big (o ∷ os) ts h =
       let p = ok-value (shape_of o.term ts) (h 0 o (omega arith)) in
@@ -72,7 +76,8 @@ module _ (m : Module) (s : List ℕ) (sound : IsSound m) (allowed : Allowed m s)
   big-of = ap (first_of (first_big_input m.inputs s)) (each-big m.outputs (input_shapes m) sound.shaped)
 
   -- where nothing is too big, each extent that is reckoned is below 2^64
-  pub outputs-fit : (inputs : List Tensor) → AreInputs m.inputs s inputs → first_of (first_big_input m.inputs s) (outputs_surveyed s m.outputs (shapes_of m.inputs)) ≡ None
+  pub outputs-fit : (inputs : List Tensor) → AreInputs m.inputs s inputs
+      → first_of (first_big_input m.inputs s) (outputs_surveyed s m.outputs (shapes_of m.inputs)) ≡ None
       → outputs_fit s m.outputs (extents_of (inputs_bound m.inputs s inputs)) ≡ true
   outputs-fit inputs are none =
       let goals = sound_goals m sound s allowed in
@@ -98,13 +103,15 @@ dens-of m s inputs = dens-each s m.outputs (inputs_bound m.inputs s inputs)
 
 -- one more input
 bound-suc : (f : Value → Tensor) (ds : List InputDecl) (s : List ℕ) (vs : List Value) (k : ℕ) (d : InputDecl) (v : Value) → k < length ds → k < length vs
-    → inputs_bound (take (suc k) ds) s (map f (take (suc k) vs)) ≡ inputs_bound (take k ds) s (map f (take k vs)) ++ (extents_at (get_or ds k d).extents s, f (get_or vs k v)) ∷ []
+    → inputs_bound (take (suc k) ds) s (map f (take (suc k) vs)) ≡ inputs_bound (take k ds) s (map f (take k vs))
+        ++ (extents_at (get_or ds k d).extents s, f (get_or vs k v)) ∷ []
 bound-suc f [] s vs k d v p q = absurd (omega (arith, p))
 bound-suc f (e ∷ ds) s [] k d v p q = absurd (omega (arith, q))
 bound-suc f (e ∷ ds) s (w ∷ vs) zero d v p q = refl
 bound-suc f (e ∷ ds) s (w ∷ vs) (suc k) d v p q = ap (λ t. (extents_at e.extents s, f w) ∷ t) (bound-suc f ds s vs k d v (omega (arith, p)) (omega (arith, q)))
 
-pub bound-next : (f : Value → Tensor) (ds : List InputDecl) (s : List ℕ) (vs : List Value) (k : ℕ) (d : InputDecl) (v : Value) → k < length ds → k < length vs → d ≡ get_or ds k d → v ≡ get_or vs k v
+pub bound-next : (f : Value → Tensor) (ds : List InputDecl) (s : List ℕ) (vs : List Value) (k : ℕ) (d : InputDecl) (v : Value) → k < length ds → k < length vs
+    → d ≡ get_or ds k d → v ≡ get_or vs k v
     → inputs_bound (take (k + 1) ds) s (map f (take (k + 1) vs)) ≡ inputs_bound (take k ds) s (map f (take k vs)) ++ (extents_at d.extents s, f v) ∷ []
 bound-next f ds s vs k d v p q a b =
     ap (λ i. inputs_bound (take i ds) s (map f (take i vs))) (add-one k) ∙ bound-suc f ds s vs k d v p q

@@ -29,7 +29,8 @@ next-suc : (f : ℕ → ℕ → ℕ) (xs ys : List Value) (k : ℕ) (d e : Value
 next-suc f [] ys k d e p q = absurd (omega (arith, p))
 next-suc f (x ∷ xs) [] k d e p q = absurd (omega (arith, q))
 next-suc f (x ∷ xs) (y ∷ ys) zero d e p q = refl
-next-suc f (x ∷ xs) (y ∷ ys) (suc k) d e p q = ap (λ rows. by_places f (meant x) (meant y) ∷ rows) (next-suc f xs ys k d e (omega (arith, p)) (omega (arith, q)))
+next-suc f (x ∷ xs) (y ∷ ys) (suc k) d e p q =
+    ap (λ rows. by_places f (meant x) (meant y) ∷ rows) (next-suc f xs ys k d e (omega (arith, p)) (omega (arith, q)))
 
 pub places-next : (f : ℕ → ℕ → ℕ) (xs ys : List Value) (k : ℕ) (x y : Value) → k < length xs → k < length ys → x ≡ get_or xs k x → y ≡ get_or ys k y
     → rows_by_places f (map meant (take (k + 1) xs)) (map meant (take (k + 1) ys))

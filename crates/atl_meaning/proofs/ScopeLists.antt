@@ -1,5 +1,6 @@
 -- What stands at a number of a list.
-use Rattle.std.proofs.Common.{◌≡◌, ℕ, zero, suc, ◌<◌, ◌≤◌, inl, inr, List, [], ◌∷◌, length, map, get_or, refl, ap, ◌∙◌, arith, Option, Some, None, MatchOption, subst}
+use Rattle.std.proofs.Common.{◌≡◌, ℕ, zero, suc, ◌<◌, ◌≤◌, inl, inr, List, [], ◌∷◌, length, map, get_or, refl, ap, ◌∙◌, arith, Option, Some, None, MatchOption}
+use Rattle.std.proofs.Common.{subst}
 use Rattle.std.specs.Prelude.{slice_get}
 use Rattle.std.proofs.lemmas.List.{get_or_past}
 use Rattle.std.proofs.lemmas.Option.{slice_get_cases}
@@ -25,7 +26,8 @@ past xs i h = elim (slice_get_cases xs i).1 [ inl p ↦ absurd (cc) | inr p ↦ 
 pub missing-at : {A B : Type 0} → (f : A → B) (xs : List A) (i : ℕ) (d : B) → slice_get xs i ≡ None → get_or (map f xs) i d ≡ d
 missing-at f xs i d h = let p = past xs i h in get_or_past (map f xs) i d (omega (arith, map-length f xs))
 
-pub found-twice : {A B C : Type 0} → (g : B → C) (f : A → B) (xs : List A) (i : ℕ) (x : A) (d : C) → slice_get xs i ≡ Some x → get_or (map g (map f xs)) i d ≡ g (f x)
+pub found-twice : {A B C : Type 0} → (g : B → C) (f : A → B) (xs : List A) (i : ℕ) (x : A) (d : C) → slice_get xs i ≡ Some x
+    → get_or (map g (map f xs)) i d ≡ g (f x)
 found-twice g f xs i x d h = elim (slice_get_cases xs i).1 [
   | inl p ↦ in-map g (map f xs) i d (f x) (omega (arith, map-length f xs, p.1)) ∙ ap g (found-at f xs i x (f x) h)
   | inr p ↦ absurd (cc)

@@ -8,16 +8,20 @@ use Rattle.affine_index.specs.declared.aff.Aff.{Aff}
 use Rattle.affine_index.specs.declared.cond.Cond.{Cond}
 use Rattle.affine_index.specs.declared.form.Items.{Items}
 use Rattle.term_tree.specs.declared.term.Term.{Term}
-use Rattle.term_tree.specs.declared.term.Term.TheVariants.{Index, Gen, Sum, Guard, Let, Add, Sub, Mul, Concat, Flatten, Split, Transpose, TruncL, TruncR, PadL, PadR}
-use Rattle.term_tree.specs.Shape.{Extents, Shaped, each_fits, each_short, here, largest_rank, limited, of_concat, of_equal, of_first, of_two, of_words, same_forms, shape_of, tiles, with_child}
+use Rattle.term_tree.specs.declared.term.Term.TheVariants.{Index, Gen, Sum, Guard, Let, Add, Sub, Mul, Concat, Flatten, Split, Transpose, TruncL, TruncR, PadL}
+use Rattle.term_tree.specs.declared.term.Term.TheVariants.{PadR}
+use Rattle.term_tree.specs.Shape.{Extents, Shaped, each_fits, each_short, here, largest_rank, limited, of_concat, of_equal, of_first, of_two, of_words}
+use Rattle.term_tree.specs.Shape.{same_forms, shape_of, tiles, with_child}
 use Rattle.term_tree.specs.declared.cause.Cause.TheVariants.{CoefficientTooLarge, IndexTooLong, RankMismatch, RankTooLarge, ShapesDiffer}
 use Rattle.term_tree.specs.Syntax.{index, gen, sum, guard, let_in, add, sub, mul, concat, flatten, split, transpose, trunc_l, trunc_r, pad_l, pad_r}
-use Rattle.term_tree.proofs.Forms.{Index-is, Gen-is, Sum-is, Guard-is, Let-is, Add-is, Sub-is, Mul-is, Concat-is, Flatten-is, Split-is, Transpose-is, TruncL-is, TruncR-is, PadL-is, PadR-is}
+use Rattle.term_tree.proofs.Forms.{Index-is, Gen-is, Sum-is, Guard-is, Let-is, Add-is, Sub-is, Mul-is, Concat-is, Flatten-is, Split-is, Transpose-is, TruncL-is}
+use Rattle.term_tree.proofs.Forms.{TruncR-is, PadL-is, PadR-is}
 use Rattle.atl_meaning.specs.Forms.{chunked_forms, concatenated_forms, each_within, flattened_forms, lengthened_forms, shortened_forms}
 use Rattle.atl_meaning.specs.Surveyed.{surveyed}
 use Rattle.atl_meaning.proofs.SurveyLaws.{child-shape, extents-are, ok-value}
 
-within-by : (a b c : Bool) (ns ms : Extents) → (if a then here RankTooLarge else (if not b then here CoefficientTooLarge else (if not c then here IndexTooLong else Ok ns))) ≡ Ok ms → (b && c) ≡ true
+within-by : (a b c : Bool) (ns ms : Extents)
+    → (if a then here RankTooLarge else (if not b then here CoefficientTooLarge else (if not c then here IndexTooLong else Ok ns))) ≡ Ok ms → (b && c) ≡ true
 within-by true b c ns ms h = absurd (cc)
 within-by false false c ns ms h = absurd (cc)
 within-by false true false ns ms h = absurd (cc)
@@ -34,14 +38,16 @@ passed false false x ms h = h
 concat-within : (ns ms os : Extents) → of_concat ns ms ≡ Ok os → each_within (concatenated_forms ns ms) ≡ true
 concat-within [] ms os h = absurd (cc)
 concat-within (n ∷ ns) [] os h = absurd (cc)
-concat-within (n ∷ ns) (m ∷ ms) os h = limited-within (sum_of n m ∷ ns) os (passed (not (length ns == length ms)) (not (same_forms ns ms)) (limited (sum_of n m ∷ ns)) os h)
+concat-within (n ∷ ns) (m ∷ ms) os h =
+    limited-within (sum_of n m ∷ ns) os (passed (not (length ns == length ms)) (not (same_forms ns ms)) (limited (sum_of n m ∷ ns)) os h)
 
 flatten-within : (ns os : Extents) → of_two ns (λ n m rest. limited (product_of n m ∷ rest)) ≡ Ok os → each_within (flattened_forms ns) ≡ true
 flatten-within [] os h = absurd (cc)
 flatten-within (n ∷ []) os h = absurd (cc)
 flatten-within (n ∷ m ∷ ns) os h = limited-within (product_of n m ∷ ns) os h
 
-split-within : (k : ℕ) (ns os : Extents) → of_first ns (λ n rest. limited (tiles k n ∷ literal_form (pos k) ∷ rest)) ≡ Ok os → each_within (chunked_forms k ns) ≡ true
+split-within : (k : ℕ) (ns os : Extents) → of_first ns (λ n rest. limited (tiles k n ∷ literal_form (pos k) ∷ rest)) ≡ Ok os
+    → each_within (chunked_forms k ns) ≡ true
 split-within k [] os h = absurd (cc)
 split-within k (n ∷ ns) os h = limited-within (tiles k n ∷ literal_form (pos k) ∷ ns) os h
 
@@ -95,7 +101,8 @@ module _ (s vars : List ℕ) (ts : List Extents) where
       let o = whole w (let_in a b) (i ∙ Let-is a b) h in
       let p = child-shape 0 (shape_of a ts) (λ ns. with_child 1 (shape_of b (ns ∷ ts)) (λ ms. Ok ms)) o.0 o.1 in
       let q = child-shape 1 (shape_of b (p.0 ∷ ts)) (λ ms. Ok ms) o.0 p.2 in
-      (ok-of (shape_of a ts) p.0 p.1, subst (λ (ns : Extents). IsOk (shape_of b (ns ∷ ts))) (sym (extents-are s a vars ts p.0 p.1)) (ok-of (shape_of b (p.0 ∷ ts)) q.0 q.1))
+      (ok-of (shape_of a ts) p.0 p.1,
+          subst (λ (ns : Extents). IsOk (shape_of b (ns ∷ ts))) (sym (extents-are s a vars ts p.0 p.1)) (ok-of (shape_of b (p.0 ∷ ts)) q.0 q.1))
 
   pub shape-Add : (w : Term) (a b : Term) → w ≡ Add a b → HasOne w → HasOne a × HasOne b
   shape-Add w a b i h =

@@ -19,10 +19,12 @@ module _ (s r : List ℕ) (t : List Bound) where
   pub tensor-Flatten : (w : Term) (e : Term) → w ≡ Flatten e → tensor w ≡ from_rows (joined (rows_of (tensor e)))
   tensor-Flatten w e i = ap tensor (i ∙ Flatten-is e) ∙ ap (λ d. d.tensor r t) (fold-flatten Denoted (denoted_step s) e)
 
-  pub tensor-Split : (w : Term) (k : ℕ) (e : Term) → w ≡ Split k e → tensor w ≡ from_rows (chunks ((head_of (dims e) + k - 1) / k) k (zeros (tail_of (dims e))) (rows_of (tensor e)))
+  pub tensor-Split : (w : Term) (k : ℕ) (e : Term) → w ≡ Split k e
+      → tensor w ≡ from_rows (chunks ((head_of (dims e) + k - 1) / k) k (zeros (tail_of (dims e))) (rows_of (tensor e)))
   tensor-Split w k e i = ap tensor (i ∙ Split-is k e) ∙ ap (λ d. d.tensor r t) (fold-split Denoted (denoted_step s) k e)
 
-  pub tensor-Transpose : (w : Term) (e : Term) → w ≡ Transpose e → tensor w ≡ from_rows (columns (head_of (tail_of (dims e))) (zeros (tail_of (tail_of (dims e)))) (rows_of (tensor e)))
+  pub tensor-Transpose : (w : Term) (e : Term) → w ≡ Transpose e
+      → tensor w ≡ from_rows (columns (head_of (tail_of (dims e))) (zeros (tail_of (tail_of (dims e)))) (rows_of (tensor e)))
   tensor-Transpose w e i = ap tensor (i ∙ Transpose-is e) ∙ ap (λ d. d.tensor r t) (fold-transpose Denoted (denoted_step s) e)
 
   pub tensor-TruncL : (w : Term) (n : Aff) (e : Term) → w ≡ TruncL n e → tensor w ≡ from_rows (drop (extent n s) (rows_of (tensor e)))

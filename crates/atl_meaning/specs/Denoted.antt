@@ -51,9 +51,12 @@ module _ (s : List ℕ) where
     fits = λ ds. a.fits ds && b.fits (a.extents ds ∷ ds);
     tensor = λ r t. b.tensor r ((a.extents (extents_of t), a.tensor r t) ∷ t);
   }
-  denoted_step (Term-F.Add a b) = record { extents = a.extents; fits = λ ds. a.fits ds && b.fits ds; tensor = λ r t. by_places (on_words Plus) (a.tensor r t) (b.tensor r t) }
-  denoted_step (Term-F.Sub a b) = record { extents = a.extents; fits = λ ds. a.fits ds && b.fits ds; tensor = λ r t. by_places (on_words Minus) (a.tensor r t) (b.tensor r t) }
-  denoted_step (Term-F.Mul a b) = record { extents = λ ds. []; fits = λ ds. a.fits ds && b.fits ds; tensor = λ r t. by_places (on_words Times) (a.tensor r t) (b.tensor r t) }
+  denoted_step (Term-F.Add a b) =
+      record { extents = a.extents; fits = λ ds. a.fits ds && b.fits ds; tensor = λ r t. by_places (on_words Plus) (a.tensor r t) (b.tensor r t) }
+  denoted_step (Term-F.Sub a b) =
+      record { extents = a.extents; fits = λ ds. a.fits ds && b.fits ds; tensor = λ r t. by_places (on_words Minus) (a.tensor r t) (b.tensor r t) }
+  denoted_step (Term-F.Mul a b) =
+      record { extents = λ ds. []; fits = λ ds. a.fits ds && b.fits ds; tensor = λ r t. by_places (on_words Times) (a.tensor r t) (b.tensor r t) }
   denoted_step (Term-F.Concat a b) = record {
     extents = λ ds. (head_of (a.extents ds) + head_of (b.extents ds)) ∷ tail_of (a.extents ds);
     fits = λ ds. (a.fits ds && b.fits ds) && nat_lt (head_of (a.extents ds) + head_of (b.extents ds)) (2 ^ 64);
@@ -67,12 +70,14 @@ module _ (s : List ℕ) where
   denoted_step (Term-F.Split k e) = record {
     extents = λ ds. ((head_of (e.extents ds) + k - 1) / k) ∷ k ∷ tail_of (e.extents ds);
     fits = e.fits;
-    tensor = λ r t. from_rows (chunks ((head_of (e.extents (extents_of t)) + k - 1) / k) k (zeros (tail_of (e.extents (extents_of t)))) (rows_of (e.tensor r t)));
+    tensor = λ r t. from_rows (chunks ((head_of (e.extents (extents_of t)) + k - 1) / k) k (zeros (tail_of (e.extents (extents_of t))))
+        (rows_of (e.tensor r t)));
   }
   denoted_step (Term-F.Transpose e) = record {
     extents = λ ds. head_of (tail_of (e.extents ds)) ∷ head_of (e.extents ds) ∷ tail_of (tail_of (e.extents ds));
     fits = e.fits;
-    tensor = λ r t. from_rows (columns (head_of (tail_of (e.extents (extents_of t)))) (zeros (tail_of (tail_of (e.extents (extents_of t))))) (rows_of (e.tensor r t)));
+    tensor = λ r t. from_rows (columns (head_of (tail_of (e.extents (extents_of t)))) (zeros (tail_of (tail_of (e.extents (extents_of t)))))
+        (rows_of (e.tensor r t)));
   }
   denoted_step (Term-F.TruncL n e) = record {
     extents = λ ds. (head_of (e.extents ds) - extent n s) ∷ tail_of (e.extents ds);

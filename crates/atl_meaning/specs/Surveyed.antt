@@ -35,7 +35,8 @@ module _ (s : List ℕ) where
   surveyed_step (Term-F.Add a b) vars ts = found_at (a vars ts).extents false (first_of (a vars ts).big (b vars ts).big)
   surveyed_step (Term-F.Sub a b) vars ts = found_at (a vars ts).extents false (first_of (a vars ts).big (b vars ts).big)
   surveyed_step (Term-F.Mul a b) vars ts = found_at [] false (first_of (a vars ts).big (b vars ts).big)
-  surveyed_step (Term-F.Concat a b) vars ts = found_at (concatenated_forms (a vars ts).extents (b vars ts).extents) false (first_of (a vars ts).big (b vars ts).big)
+  surveyed_step (Term-F.Concat a b) vars ts =
+      found_at (concatenated_forms (a vars ts).extents (b vars ts).extents) false (first_of (a vars ts).big (b vars ts).big)
   surveyed_step (Term-F.Flatten e) vars ts = found_at (flattened_forms (e vars ts).extents) false (e vars ts).big
   surveyed_step (Term-F.Split k e) vars ts = found_at (chunked_forms k (e vars ts).extents) false (e vars ts).big
   surveyed_step (Term-F.Transpose e) vars ts = found_at (transposed_forms (e vars ts).extents) false (e vars ts).big

@@ -42,7 +42,8 @@ module _ (A B : Type 0) (p q : Atom-F A B → A) (t : Items-F A B → B)
   each_same [] h k = refl
   each_same (f ∷ fs) h k = λ i. h.0 (λ v u. k v (or_left _ _ u)) i ∷ each_same fs h.1 (λ v u. k v (or_right _ _ u)) i
 
-  terms_same : (ts : List (Item Atom)) → EachTerm AtomAgrees ts → AgreeAt (λ v. terms_have (λ w. w == v) ts) → map (with_atom left) ts ≡ map (with_atom right) ts
+  terms_same : (ts : List (Item Atom)) → EachTerm AtomAgrees ts → AgreeAt (λ v. terms_have (λ w. w == v) ts)
+      → map (with_atom left) ts ≡ map (with_atom right) ts
   terms_same [] h k = refl
   terms_same (u ∷ ts) h k =
       λ i. record { atom = h.0 (λ v o. k v (or_left _ _ o)) i; coefficient = u.coefficient } ∷ terms_same ts h.1 (λ v o. k v (or_right _ _ o)) i

@@ -1,5 +1,6 @@
 -- What a map answers, and the causes of its refusals.
-use Rattle.std.proofs.Common.{◌≡◌, ℕ, ◌+◌, ◌<◌, ◌≤◌, ◌⊎◌, inl, inr, ⊎_elim, List, [], ◌∷◌, ◌++◌, length, map, refl, ap, sym, ◌∙◌, subst, arith, Bool, true, false, not, ◌||◌, ◌==◌, eqb-true, eq-eqb, Option, Some, None, Result, Ok, Err}
+use Rattle.std.proofs.Common.{◌≡◌, ℕ, ◌+◌, ◌<◌, ◌≤◌, ◌⊎◌, inl, inr, ⊎_elim, List, [], ◌∷◌, ◌++◌, length, map, refl, ap, sym, ◌∙◌, subst, arith, Bool, true}
+use Rattle.std.proofs.Common.{false, not, ◌||◌, ◌==◌, eqb-true, eq-eqb, Option, Some, None, Result, Ok, Err}
 use Rattle.std.proofs.lemmas.Bool.{cases_lt, or_cases, or_left, or_right}
 use Rattle.std.proofs.lemmas.List.{get_or_append_left, get_or_push}
 use Rattle.std.specs.Prelude.{pos}
@@ -12,7 +13,8 @@ use Rattle.affine_index.specs.declared.form.Atom.{Atom}
 use Rattle.affine_index.specs.declared.form.Item.{Item}
 use Rattle.affine_index.specs.declared.form.Items.{Items}
 use Rattle.affine_index.proofs.Induction.{Each, EachTerm, for_items}
-use Rattle.binders.specs.Answers.{AreReplacements, IsAnswer, IsCmp, IsForm, Reach, Refusals, breaks, form_beyond, form_causes, form_refused, is_memory, is_refusal, same_refusal, tensor_refused}
+use Rattle.binders.specs.Answers.{AreReplacements, IsAnswer, IsCmp, IsForm, Reach, Refusals, breaks, form_beyond, form_causes, form_refused, is_memory}
+use Rattle.binders.specs.Answers.{is_refusal, same_refusal, tensor_refused}
 use Rattle.binders.specs.Maps.{Replacement, put_at, put_cmp}
 use Rattle.binders.specs.Uses.{atom_has, form_has, terms_have, uses}
 use Rattle.binders.specs.declared.refusal.MapRefusal.{MapRefusal}

@@ -4,9 +4,11 @@ use Rattle.affine_index.specs.declared.aff.Aff.{Aff}
 use Rattle.affine_index.specs.declared.cond.Cond.{Cond}
 use Rattle.affine_index.specs.declared.form.Items.{Items}
 use Rattle.term_tree.specs.declared.term.Term.{Term}
-use Rattle.term_tree.specs.declared.term.Term.TheVariants.{Index, Gen, Sum, Guard, Let, Add, Sub, Mul, Concat, Flatten, Split, Transpose, TruncL, TruncR, PadL, PadR}
+use Rattle.term_tree.specs.declared.term.Term.TheVariants.{Index, Gen, Sum, Guard, Let, Add, Sub, Mul, Concat, Flatten, Split, Transpose, TruncL, TruncR, PadL}
+use Rattle.term_tree.specs.declared.term.Term.TheVariants.{PadR}
 use Rattle.term_tree.specs.Syntax.{index, gen, sum, guard, let_in, add, sub, mul, concat, flatten, split, transpose, trunc_l, trunc_r, pad_l, pad_r}
-use Rattle.term_tree.proofs.Forms.{Index-is, Gen-is, Sum-is, Guard-is, Let-is, Add-is, Sub-is, Mul-is, Concat-is, Flatten-is, Split-is, Transpose-is, TruncL-is, TruncR-is, PadL-is, PadR-is}
+use Rattle.term_tree.proofs.Forms.{Index-is, Gen-is, Sum-is, Guard-is, Let-is, Add-is, Sub-is, Mul-is, Concat-is, Flatten-is, Split-is, Transpose-is, TruncL-is}
+use Rattle.term_tree.proofs.Forms.{TruncR-is, PadL-is, PadR-is}
 use Rattle.binders.specs.Answers.{IsPartOf, Refusals, form_causes, is_memory, part_causes, place_fold, tensor_refused}
 use Rattle.binders.specs.Maps.{Replacement, map_fold}
 use Rattle.binders.specs.Uses.{any_cmp}
@@ -28,22 +30,28 @@ module _ (p : ℕ → ℕ → Items → Bool) (q : ℕ → ℕ → ℕ → Bool)
   place-Sum n e i j = ap (λ z. place z i j) (Sum-is n e) ∙ place_fold-is p q (sum n e) i j ∙ sym (place_fold-is p q e (i + 1) j)
 
   place-Guard : (c : Cond) (e : Term) (i j : ℕ) → place (Guard c e) i j ≡ (any_cmp (p i j) c.all || place e i j)
-  place-Guard c e i j = ap (λ z. place z i j) (Guard-is c e) ∙ place_fold-is p q (guard c e) i j ∙ (λ t. any_cmp (p i j) c.all || sym (place_fold-is p q e i j) t)
+  place-Guard c e i j = ap (λ z. place z i j) (Guard-is c e) ∙ place_fold-is p q (guard c e) i j
+      ∙ (λ t. any_cmp (p i j) c.all || sym (place_fold-is p q e i j) t)
 
   place-Let : (a b : Term) (i j : ℕ) → place (Let a b) i j ≡ (place a i j || place b i (j + 1))
-  place-Let a b i j = ap (λ z. place z i j) (Let-is a b) ∙ place_fold-is p q (let_in a b) i j ∙ (λ t. sym (place_fold-is p q a i j) t || sym (place_fold-is p q b i (j + 1)) t)
+  place-Let a b i j = ap (λ z. place z i j) (Let-is a b) ∙ place_fold-is p q (let_in a b) i j
+      ∙ (λ t. sym (place_fold-is p q a i j) t || sym (place_fold-is p q b i (j + 1)) t)
 
   place-Add : (a b : Term) (i j : ℕ) → place (Add a b) i j ≡ (place a i j || place b i j)
-  place-Add a b i j = ap (λ z. place z i j) (Add-is a b) ∙ place_fold-is p q (add a b) i j ∙ (λ t. sym (place_fold-is p q a i j) t || sym (place_fold-is p q b i j) t)
+  place-Add a b i j = ap (λ z. place z i j) (Add-is a b) ∙ place_fold-is p q (add a b) i j
+      ∙ (λ t. sym (place_fold-is p q a i j) t || sym (place_fold-is p q b i j) t)
 
   place-Sub : (a b : Term) (i j : ℕ) → place (Sub a b) i j ≡ (place a i j || place b i j)
-  place-Sub a b i j = ap (λ z. place z i j) (Sub-is a b) ∙ place_fold-is p q (sub a b) i j ∙ (λ t. sym (place_fold-is p q a i j) t || sym (place_fold-is p q b i j) t)
+  place-Sub a b i j = ap (λ z. place z i j) (Sub-is a b) ∙ place_fold-is p q (sub a b) i j
+      ∙ (λ t. sym (place_fold-is p q a i j) t || sym (place_fold-is p q b i j) t)
 
   place-Mul : (a b : Term) (i j : ℕ) → place (Mul a b) i j ≡ (place a i j || place b i j)
-  place-Mul a b i j = ap (λ z. place z i j) (Mul-is a b) ∙ place_fold-is p q (mul a b) i j ∙ (λ t. sym (place_fold-is p q a i j) t || sym (place_fold-is p q b i j) t)
+  place-Mul a b i j = ap (λ z. place z i j) (Mul-is a b) ∙ place_fold-is p q (mul a b) i j
+      ∙ (λ t. sym (place_fold-is p q a i j) t || sym (place_fold-is p q b i j) t)
 
   place-Concat : (a b : Term) (i j : ℕ) → place (Concat a b) i j ≡ (place a i j || place b i j)
-  place-Concat a b i j = ap (λ z. place z i j) (Concat-is a b) ∙ place_fold-is p q (concat a b) i j ∙ (λ t. sym (place_fold-is p q a i j) t || sym (place_fold-is p q b i j) t)
+  place-Concat a b i j = ap (λ z. place z i j) (Concat-is a b) ∙ place_fold-is p q (concat a b) i j
+      ∙ (λ t. sym (place_fold-is p q a i j) t || sym (place_fold-is p q b i j) t)
 
   place-Flatten : (e : Term) (i j : ℕ) → place (Flatten e) i j ≡ place e i j
   place-Flatten e i j = ap (λ z. place z i j) (Flatten-is e) ∙ place_fold-is p q (flatten e) i j ∙ sym (place_fold-is p q e i j)
@@ -114,11 +122,13 @@ module _ (m : Replacement) (r : Refusals) (d : MapRefusal) where
   of_Guard z c e i j s h = parent z (Guard c e) i j (any_cmp (p i j) c.all || place_fold p q e i j) s (place-Guard p q c e i j) (second (is_memory d) _ _ h)
 
   pub of_definition : (z a b : Term) (i j : ℕ) → z ≡ Let a b → Cause a i j → Cause z i j
-  of_definition z a b i j s h = parent z (Let a b) i j (place_fold p q a i j || place_fold p q b i (j + 1)) s (place-Let p q a b i j) (first (is_memory d) _ _ h)
+  of_definition z a b i j s h =
+      parent z (Let a b) i j (place_fold p q a i j || place_fold p q b i (j + 1)) s (place-Let p q a b i j) (first (is_memory d) _ _ h)
 
   pub of_body : (z a b : Term) (i j i' j' : ℕ) → z ≡ Let a b → i' ≡ i → j' ≡ j + 1 → Cause b i' j' → Cause z i j
   of_body z a b i j i' j' s e f h =
-      parent z (Let a b) i j (place_fold p q a i j || place_fold p q b i (j + 1)) s (place-Let p q a b i j) (second (is_memory d) _ _ (moved b i (j + 1) i' j' e f h))
+      parent z (Let a b) i j (place_fold p q a i j || place_fold p q b i (j + 1)) s (place-Let p q a b i j)
+          (second (is_memory d) _ _ (moved b i (j + 1) i' j' e f h))
 
   pub of_first-Add : (z a b : Term) (i j : ℕ) → z ≡ Add a b → Cause a i j → Cause z i j
   of_first-Add z a b i j s h = parent z (Add a b) i j (place_fold p q a i j || place_fold p q b i j) s (place-Add p q a b i j) (first (is_memory d) _ _ h)
@@ -139,10 +149,12 @@ module _ (m : Replacement) (r : Refusals) (d : MapRefusal) where
   of_second-Mul z a b i j s h = parent z (Mul a b) i j (place_fold p q a i j || place_fold p q b i j) s (place-Mul p q a b i j) (second (is_memory d) _ _ h)
 
   pub of_first-Concat : (z a b : Term) (i j : ℕ) → z ≡ Concat a b → Cause a i j → Cause z i j
-  of_first-Concat z a b i j s h = parent z (Concat a b) i j (place_fold p q a i j || place_fold p q b i j) s (place-Concat p q a b i j) (first (is_memory d) _ _ h)
+  of_first-Concat z a b i j s h =
+      parent z (Concat a b) i j (place_fold p q a i j || place_fold p q b i j) s (place-Concat p q a b i j) (first (is_memory d) _ _ h)
 
   pub of_second-Concat : (z a b : Term) (i j : ℕ) → z ≡ Concat a b → Cause b i j → Cause z i j
-  of_second-Concat z a b i j s h = parent z (Concat a b) i j (place_fold p q a i j || place_fold p q b i j) s (place-Concat p q a b i j) (second (is_memory d) _ _ h)
+  of_second-Concat z a b i j s h =
+      parent z (Concat a b) i j (place_fold p q a i j || place_fold p q b i j) s (place-Concat p q a b i j) (second (is_memory d) _ _ h)
 
   pub of_Flatten : (z : Term) (e : Term) (i j : ℕ) → z ≡ Flatten e → Cause e i j → Cause z i j
   of_Flatten z e i j s h = parent z (Flatten e) i j (place_fold p q e i j) s (place-Flatten p q e i j) h

@@ -12,14 +12,18 @@ and_false true = refl
 and_false false = refl
 
 module _ (f : Cmp → Cmp) (items rest back : List Cmp) (c : Cmp) (e : back ≡ c ∷ rest) where
-  pub more_fit : (p : Items → Bool) → p (cmp_form (f c)) ≡ true → each_cmp p (map f back) ≡ each_cmp p (map f items) → each_cmp p (map f rest) ≡ each_cmp p (map f items)
+  pub more_fit : (p : Items → Bool) → p (cmp_form (f c)) ≡ true → each_cmp p (map f back) ≡ each_cmp p (map f items)
+      → each_cmp p (map f rest) ≡ each_cmp p (map f items)
   more_fit p h k = sym (ap (λ b. b && each_cmp p (map f rest)) h) ∙ ap (λ cs. each_cmp p (map f cs)) (sym e) ∙ k
 
-  pub more_short : (p : Items → Bool) (short : Bool) → p (cmp_form (f c)) ≡ true → (short && each_cmp p (map f back)) ≡ each_cmp p (map f items) → (short && each_cmp p (map f rest)) ≡ each_cmp p (map f items)
+  pub more_short : (p : Items → Bool) (short : Bool) → p (cmp_form (f c)) ≡ true → (short && each_cmp p (map f back)) ≡ each_cmp p (map f items)
+      → (short && each_cmp p (map f rest)) ≡ each_cmp p (map f items)
   more_short p short h k = sym (ap (λ b. short && (b && each_cmp p (map f rest))) h) ∙ ap (λ cs. short && each_cmp p (map f cs)) (sym e) ∙ k
 
-  pub too_long : (p : Items → Bool) (short : Bool) → p (cmp_form (f c)) ≡ false → (short && each_cmp p (map f back)) ≡ each_cmp p (map f items) → false ≡ each_cmp p (map f items)
-  too_long p short h k = sym (and_false short) ∙ sym (ap (λ b. short && (b && each_cmp p (map f rest))) h) ∙ ap (λ cs. short && each_cmp p (map f cs)) (sym e) ∙ k
+  pub too_long : (p : Items → Bool) (short : Bool) → p (cmp_form (f c)) ≡ false → (short && each_cmp p (map f back)) ≡ each_cmp p (map f items)
+      → false ≡ each_cmp p (map f items)
+  too_long p short h k = sym (and_false short) ∙ sym (ap (λ b. short && (b && each_cmp p (map f rest))) h) ∙ ap (λ cs. short && each_cmp p (map f cs)) (sym e)
+      ∙ k
 
   pub more_mapped : (all all' : List Cmp) (y : Cmp) → all' ≡ all ++ (y ∷ []) → y ≡ f c → all ++ map f back ≡ map f items → all' ++ map f rest ≡ map f items
   more_mapped all all' y is same k =
@@ -40,7 +44,8 @@ module _ (f : Cmp → Cmp) (items : List Cmp) (n : ℕ) (over : length items ≤
   pub done_fit : (p : Items → Bool) → each_cmp p (map f (drop n items)) ≡ each_cmp p (map f items) → each_cmp p (map f items) ≡ true
   done_fit p k = sym k ∙ ap (λ cs. each_cmp p (map f cs)) (drop_all n items over)
 
-  pub done_short : (p : Items → Bool) (short : Bool) → (short && each_cmp p (map f (drop n items))) ≡ each_cmp p (map f items) → each_cmp p (map f items) ≡ short
+  pub done_short : (p : Items → Bool) (short : Bool) → (short && each_cmp p (map f (drop n items))) ≡ each_cmp p (map f items)
+      → each_cmp p (map f items) ≡ short
   done_short p short k = sym k ∙ ap (λ cs. short && each_cmp p (map f cs)) (drop_all n items over) ∙ and_true short
 
   pub done_all : (all : List Cmp) → all ++ map f (drop n items) ≡ map f items → all ≡ map f items

@@ -1,5 +1,6 @@
 -- The three plain replacements send values.
-use Rattle.std.proofs.Common.{◌≡◌, ℕ, suc, ◌+◌, ◌-◌, ◌<◌, ◌≤◌, List, [], ◌∷◌, ◌++◌, length, get_or, refl, ap, sym, ◌∙◌, subst, arith, Bool, true, false, cond, nat_lt, if◌then◌else◌}
+use Rattle.std.proofs.Common.{◌≡◌, ℕ, suc, ◌+◌, ◌-◌, ◌<◌, ◌≤◌, List, [], ◌∷◌, ◌++◌, length, get_or, refl, ap, sym, ◌∙◌, subst, arith, Bool, true, false, cond}
+use Rattle.std.proofs.Common.{nat_lt, if◌then◌else◌}
 use Rattle.std.specs.Prelude.{slice_index, pos}
 use Rattle.std.proofs.lemmas.Bool.{ltb-true, ltb-false}
 use Rattle.std.proofs.lemmas.List.{get_or-append-add, get_or_append_left}
@@ -28,7 +29,8 @@ module _ {A : Type 0} (d : A) where
   get_or_front xs ys zs i h = get_or_append_left xs ys d i h ∙ sym (get_or_append_left xs zs d i h)
 
   -- a list put in behind the first one
-  pub get_or_moved : (is new r : List A) (v : ℕ) (b : Bool) → nat_lt v (length is) ≡ b → get_or (is ++ (new ++ r)) (cond b v (v + length new)) d ≡ get_or (is ++ r) v d
+  pub get_or_moved : (is new r : List A) (v : ℕ) (b : Bool) → nat_lt v (length is) ≡ b
+      → get_or (is ++ (new ++ r)) (cond b v (v + length new)) d ≡ get_or (is ++ r) v d
   get_or_moved is new r v true e = get_or_front is (new ++ r) r v (ltb-true _ _ e)
   get_or_moved is new r v false e =
       let h = ltb-false _ _ e in
@@ -72,7 +74,8 @@ module _ (by : List Items) (ok : (k : ℕ) → k < length by → is_ordered (giv
       let h : v - length is < length by = ltb-true _ _ e in
       value-lifted s is (new ++ r) (given by (v - length is)) (ok (v - length is) h)
       ∙ have (v - length is) h
-      ∙ ap pos (sym (get_or_skip 0 is (values ++ r) v (v - length is) (omega (arith, l)) ∙ get_or_append_left values r 0 (v - length is) (omega (arith, h, many))))
+      ∙ ap pos (sym (get_or_skip 0 is (values ++ r) v (v - length is) (omega (arith, l))
+          ∙ get_or_append_left values r 0 (v - length is) (omega (arith, h, many))))
   past l false e =
       let h : length by ≤ v - length is = ltb-false _ _ e in
       let n : ℕ = v - length is - length by in
@@ -82,7 +85,8 @@ module _ (by : List Items) (ok : (k : ℕ) → k < length by → is_ordered (giv
       ∙ sym (get_or_skip 0 is (values ++ r) v (v - length is) (omega (arith, l)) ∙ get_or_skip 0 values r (v - length is) n (omega (arith, l, h, many))))
 
   put_value : (b : Bool) → nat_lt v (length is) ≡ b →
-      Given (if b then var_form v else (if nat_lt (v - length is) (length by) then shifted 0 (length is) (given by (v - length is)) else var_form (v - length by + length new)))
+      Given (if b then var_form v else
+          (if nat_lt (v - length is) (length by) then shifted 0 (length is) (given by (v - length is)) else var_form (v - length by + length new)))
   put_value true e = value-var_form s (is ++ (new ++ r)) v ∙ ap pos (get_or_front 0 is (new ++ r) (values ++ r) v (ltb-true _ _ e))
   put_value false e = past (ltb-false _ _ e) (nat_lt (v - length is) (length by)) refl
 

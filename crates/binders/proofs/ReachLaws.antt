@@ -1,5 +1,6 @@
 -- A well scoped term is within the reach of a map whose reach has the variables in scope.
-use Rattle.std.proofs.Common.{◌≡◌, ℕ, ◌+◌, ◌-◌, ◌^◌, ◌<◌, ◌≤◌, List, [], ◌∷◌, length, map, refl, ap, sym, ◌∙◌, arith, Bool, true, false, not, ◌||◌, ◌&&◌, nat_le, nat_lt, if◌then◌else◌}
+use Rattle.std.proofs.Common.{◌≡◌, ℕ, ◌+◌, ◌-◌, ◌^◌, ◌<◌, ◌≤◌, List, [], ◌∷◌, length, map, refl, ap, sym, ◌∙◌, arith, Bool, true, false, not, ◌||◌, ◌&&◌}
+use Rattle.std.proofs.Common.{nat_le, nat_lt, if◌then◌else◌}
 use Rattle.std.proofs.lemmas.Bool.{and_from, and_parts, le-leb, leb-true, lt-ltb, ltb-false, ltb-true, not-true, or_right}
 use Rattle.affine_index.specs.Condition.{all_scoped}
 use Rattle.affine_index.specs.Every.{atom_every, atoms_every, terms_every}
@@ -90,7 +91,8 @@ module _ (d : Reach) (sizes vars tensors most : ℕ)
   abbrev Within : Term → Type 0
   Within e = (i j : ℕ) → i + node_depth e ≤ most → j + node_depth e ≤ most → Scoped e i j → beyond e i j ≡ false
 
-  two : (e f : Term) (i j : ℕ) → Within e → Within f → i + node_depth e + 1 ≤ most → j + node_depth e + 1 ≤ most → i + node_depth f + 1 ≤ most → j + node_depth f + 1 ≤ most
+  two : (e f : Term) (i j : ℕ) → Within e → Within f → i + node_depth e + 1 ≤ most → j + node_depth e + 1 ≤ most → i + node_depth f + 1 ≤ most
+      → j + node_depth f + 1 ≤ most
       → (term_scoped sizes e (vars + i) (tensors + j) && term_scoped sizes f (vars + i) (tensors + j)) ≡ true → (beyond e i j || beyond f i j) ≡ false
   two e f i j g h a b c k s =
       let parts = and_parts (term_scoped sizes e (vars + i) (tensors + j)) (term_scoped sizes f (vars + i) (tensors + j)) s in
@@ -161,7 +163,8 @@ module _ (from by sizes vars : ℕ) (room : vars + by ≤ 2 ^ 32) where
       (λ k s. every-Size can (λ i. true) k ∙ ap (number_fits from by) (out-Size k))
       (λ v s. every-Var can (λ i. true) v ∙ ap (number_fits from by) (out-Var v) ∙ var_fits v (ltb-true v vars (sym (scoped-Var sizes vars v) ∙ s)))
       (λ x k h s. every-Div can (λ i. true) x k ∙ and_from (can (Div x k)) _ (ap (number_fits from by) (out-Div x k)) (h (sym (scoped-Div sizes vars x k) ∙ s)))
-      (λ fs h s. every-Mul can (λ i. true) fs ∙ and_from (can (Mul fs)) _ (ap (number_fits from by) (out-Mul fs)) (factors_fit fs h (sym (scoped-Mul sizes vars fs) ∙ s)))
+      (λ fs h s. every-Mul can (λ i. true) fs
+          ∙ and_from (can (Mul fs)) _ (ap (number_fits from by) (out-Mul fs)) (factors_fit fs h (sym (scoped-Mul sizes vars fs) ∙ s)))
       (λ ts c h s.
       let x : Items = record { terms = ts; constant = c } in
       every-items can (λ i. true) x ∙ terms_fit ts h (sym (scoped-items sizes vars x) ∙ s))
@@ -178,7 +181,8 @@ shift_within a b sizes vars tensors e f g s =
 pub put_index_within : (by : List Items) (under w sizes vars tensors : ℕ) (e : Term) → ((k : ℕ) → k < length by → items_scoped sizes w (given by k) ≡ true)
     → w + node_depth e ≤ 2 ^ 32 → vars + node_depth e + under ≤ 2 ^ 32 → term_scoped sizes e vars tensors ≡ true → IsWithinReach (put_index_reach by under) e
 put_index_within by under w sizes vars tensors e forms f g s =
-    within_reach_of (put_index_reach by under) sizes vars tensors (node_depth e) (λ i j v k l h. first i v k h (nat_lt v i) refl) (λ i j q k l h. refl) e (omega arith) s
+    within_reach_of (put_index_reach by under) sizes vars tensors (node_depth e) (λ i j v k l h. first i v k h (nat_lt v i) refl) (λ i j q k l h. refl) e
+        (omega arith) s
   where
     second : (i v : ℕ) → i ≤ node_depth e → v < vars + i → i ≤ v → (b : Bool) → nat_lt (v - i) (length by) ≡ b
         → (if b then numbers_fit 0 i (given by (v - i)) else nat_lt (v - length by + under) (2 ^ 32)) ≡ true
@@ -196,14 +200,16 @@ pub put_tensor_within : (by : Term) (under w u sizes vars tensors : ℕ) (e : Te
     → term_scoped sizes e vars tensors ≡ true → IsWithinReach (put_tensor_reach by under) e
 unfolding may_shift
 put_tensor_within by under w u sizes vars tensors e scoped deep f g h s =
-    within_reach_of (put_tensor_reach by under) sizes vars tensors (node_depth e) (λ i j v k l b. refl) (λ i j q k l b. first i j q k l b (nat_lt q j) refl) e (omega arith) s
+    within_reach_of (put_tensor_reach by under) sizes vars tensors (node_depth e) (λ i j v k l b. refl) (λ i j q k l b. first i j q k l b (nat_lt q j) refl) e
+        (omega arith) s
   where
     shifted_by : (i j : ℕ) → i ≤ node_depth e → j ≤ node_depth e → may_shift i j by ≡ true
     shifted_by i j k l =
         and_from (nat_le (node_depth by) 2147483647) _ (le-leb (node_depth by) 2147483647 deep)
         (ap not (shift_within i j sizes w u by (omega (arith, f, k)) (omega (arith, g, l)) scoped))
 
-    second : (i j q : ℕ) → i ≤ node_depth e → j ≤ node_depth e → q < tensors + j → (b : Bool) → (if b then nat_lt (q - 1 + under) (2 ^ 32) else may_shift i j by) ≡ true
+    second : (i j q : ℕ) → i ≤ node_depth e → j ≤ node_depth e → q < tensors + j → (b : Bool)
+        → (if b then nat_lt (q - 1 + under) (2 ^ 32) else may_shift i j by) ≡ true
     second i j q k l m true = lt-ltb (q - 1 + under) (2 ^ 32) (omega (arith, h, l, m))
     second i j q k l m false = shifted_by i j k l
 
@@ -223,4 +229,5 @@ may_shift-parts i j e h =
 pub within_everywhere : (d : Reach) → ((i j v : ℕ) → d.has_index i j v ≡ true) → ((i j q : ℕ) → d.has_tensor i j q ≡ true) → (e : Term) → IsWithinReach d e
 unfolding form_beyond
 within_everywhere d h k e =
-    no_place (form_beyond d) (λ i j q. not (d.has_tensor i j q)) (λ i j x. (λ t. form_has (λ v. not (h i j v t)) x) ∙ has-none x) (λ i j q. ap not (k i j q)) e 0 0
+    no_place (form_beyond d) (λ i j q. not (d.has_tensor i j q)) (λ i j x. (λ t. form_has (λ v. not (h i j v t)) x) ∙ has-none x) (λ i j q. ap not (k i j q)) e
+        0 0

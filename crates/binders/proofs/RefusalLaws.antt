@@ -1,5 +1,6 @@
 -- The refusals of the parts of a mapped term are those of the whole.
-use Rattle.std.proofs.Common.{◌≡◌, ℕ, suc, ◌+◌, ◌⊎◌, inl, inr, List, [], ◌∷◌, map, refl, ap, sym, ◌∙◌, subst, add-one, Bool, true, false, not, ◌||◌, ◌&&◌, Option, Some, None, Result, Ok, Err, IfOk}
+use Rattle.std.proofs.Common.{◌≡◌, ℕ, suc, ◌+◌, ◌⊎◌, inl, inr, List, [], ◌∷◌, map, refl, ap, sym, ◌∙◌, subst, add-one, Bool, true, false, not, ◌||◌, ◌&&◌}
+use Rattle.std.proofs.Common.{Option, Some, None, Result, Ok, Err, IfOk}
 use Rattle.std.proofs.lemmas.Bool.{and_parts}
 use Rattle.affine_index.specs.Condition.{cmp_form}
 use Rattle.affine_index.specs.Normal.{any_true}
@@ -14,8 +15,10 @@ use Rattle.affine_index.proofs.Induction.{Each, EachTerm, for_items}
 use Rattle.term_tree.specs.declared.term.Term.{Term, Lit, TVar, WordOf}
 use Rattle.term_tree.specs.Syntax.{index, gen, sum, guard, let_in, add, sub, mul, concat, flatten, split, transpose, trunc_l, trunc_r, pad_l, pad_r}
 use Rattle.term_tree.specs.Limits.{coefficients_fit, each_cmp, form_step, forms_short}
-use Rattle.term_tree.proofs.Folds.{fold-word_of, fold-index, fold-gen, fold-sum, fold-guard, fold-let_in, fold-add, fold-sub, fold-mul, fold-concat, fold-flatten, fold-split, fold-transpose, fold-trunc_l, fold-trunc_r, fold-pad_l, fold-pad_r}
-use Rattle.binders.specs.Answers.{IsMapped, IsPartOf, IsWithinLimits, NeverRefuses, Refusals, form_causes, form_refused, is_memory, is_refusal, no_refusals, part_causes, refused, some_place, tensor_refused}
+use Rattle.term_tree.proofs.Folds.{fold-word_of, fold-index, fold-gen, fold-sum, fold-guard, fold-let_in, fold-add, fold-sub, fold-mul, fold-concat}
+use Rattle.term_tree.proofs.Folds.{fold-flatten, fold-split, fold-transpose, fold-trunc_l, fold-trunc_r, fold-pad_l, fold-pad_r}
+use Rattle.binders.specs.Answers.{IsMapped, IsPartOf, IsWithinLimits, NeverRefuses, Refusals, form_causes, form_refused, is_memory, is_refusal, no_refusals}
+use Rattle.binders.specs.Answers.{part_causes, refused, some_place, tensor_refused}
 use Rattle.binders.specs.Maps.{Keeps, Replacement, map_fold, mapped, put_cmp}
 use Rattle.binders.specs.Uses.{any_cmp, atom_has, form_has, terms_have}
 use Rattle.binders.specs.declared.refusal.MapRefusal.{MapRefusal}
@@ -56,7 +59,8 @@ module _ (m : Replacement) (own : ℕ → ℕ → Items → Bool) (q : ℕ → �
   pub own_causes : (e : Term) (i j : ℕ) → Fits e i j → some_place causes q e i j ≡ some_place own q e i j
   own_causes (Lit w) i j h = refl
   own_causes (TVar v) i j h = refl
-  own_causes (WordOf x) i j h = or_not (own i j x) (form_fits (put_all (m.for_index i j) x)) (sym (fold-word_of Bool (form_step form_fits) (put_all (m.for_index i j) x)) ∙ h)
+  own_causes (WordOf x) i j h =
+      or_not (own i j x) (form_fits (put_all (m.for_index i j) x)) (sym (fold-word_of Bool (form_step form_fits) (put_all (m.for_index i j) x)) ∙ h)
   own_causes (index e x) i j h =
       let f = and_parts (coefficients_fit (mapped m i j e)) (form_fits (put_all (m.for_index i j) x)) (sym (fold-index Bool (form_step form_fits) _ _) ∙ h) in
       λ t. own_causes e i j f.0 t || or_not (own i j x) (form_fits (put_all (m.for_index i j) x)) f.1 t
@@ -67,23 +71,32 @@ module _ (m : Replacement) (own : ℕ → ℕ → Items → Bool) (q : ℕ → �
       let f = and_parts (form_fits n) (coefficients_fit (mapped m (suc i) j e)) (sym (fold-sum Bool (form_step form_fits) _ _) ∙ h) in
       own_causes e (i + 1) j (ap (λ k. coefficients_fit (mapped m k j e)) (add-one i) ∙ f.1)
   own_causes (guard c e) i j h =
-      let f = and_parts (each_cmp form_fits (map (put_cmp (m.for_index i j)) c.all)) (coefficients_fit (mapped m i j e)) (sym (fold-guard Bool (form_step form_fits) _ _) ∙ h) in
+      let f = and_parts (each_cmp form_fits (map (put_cmp (m.for_index i j)) c.all)) (coefficients_fit (mapped m i j e))
+          (sym (fold-guard Bool (form_step form_fits) _ _) ∙ h) in
       λ t. own_cmps i j c.all f.0 t || own_causes e i j f.1 t
   own_causes (let_in a b) i j h =
       let f = both a b i j (suc j) (sym (fold-let_in Bool (form_step form_fits) _ _) ∙ h) in
       let g : Fits b i (j + 1) = ap (λ k. coefficients_fit (mapped m i k b)) (add-one j) ∙ f.1 in
       λ t. own_causes a i j f.0 t || own_causes b i (j + 1) g t
-  own_causes (add a b) i j h = let f = both a b i j j (sym (fold-add Bool (form_step form_fits) _ _) ∙ h) in λ t. own_causes a i j f.0 t || own_causes b i j f.1 t
-  own_causes (sub a b) i j h = let f = both a b i j j (sym (fold-sub Bool (form_step form_fits) _ _) ∙ h) in λ t. own_causes a i j f.0 t || own_causes b i j f.1 t
-  own_causes (mul a b) i j h = let f = both a b i j j (sym (fold-mul Bool (form_step form_fits) _ _) ∙ h) in λ t. own_causes a i j f.0 t || own_causes b i j f.1 t
-  own_causes (concat a b) i j h = let f = both a b i j j (sym (fold-concat Bool (form_step form_fits) _ _) ∙ h) in λ t. own_causes a i j f.0 t || own_causes b i j f.1 t
+  own_causes (add a b) i j h = let f = both a b i j j (sym (fold-add Bool (form_step form_fits) _ _) ∙ h) in
+      λ t. own_causes a i j f.0 t || own_causes b i j f.1 t
+  own_causes (sub a b) i j h = let f = both a b i j j (sym (fold-sub Bool (form_step form_fits) _ _) ∙ h) in
+      λ t. own_causes a i j f.0 t || own_causes b i j f.1 t
+  own_causes (mul a b) i j h = let f = both a b i j j (sym (fold-mul Bool (form_step form_fits) _ _) ∙ h) in
+      λ t. own_causes a i j f.0 t || own_causes b i j f.1 t
+  own_causes (concat a b) i j h = let f = both a b i j j (sym (fold-concat Bool (form_step form_fits) _ _) ∙ h) in
+      λ t. own_causes a i j f.0 t || own_causes b i j f.1 t
   own_causes (flatten e) i j h = own_causes e i j (sym (fold-flatten Bool (form_step form_fits) _) ∙ h)
   own_causes (split k e) i j h = own_causes e i j (sym (fold-split Bool (form_step form_fits) k _) ∙ h)
   own_causes (transpose e) i j h = own_causes e i j (sym (fold-transpose Bool (form_step form_fits) _) ∙ h)
-  own_causes (trunc_l n e) i j h = own_causes e i j (and_parts (form_fits n) (coefficients_fit (mapped m i j e)) (sym (fold-trunc_l Bool (form_step form_fits) _ _) ∙ h)).1
-  own_causes (trunc_r n e) i j h = own_causes e i j (and_parts (form_fits n) (coefficients_fit (mapped m i j e)) (sym (fold-trunc_r Bool (form_step form_fits) _ _) ∙ h)).1
-  own_causes (pad_l n e) i j h = own_causes e i j (and_parts (form_fits n) (coefficients_fit (mapped m i j e)) (sym (fold-pad_l Bool (form_step form_fits) _ _) ∙ h)).1
-  own_causes (pad_r n e) i j h = own_causes e i j (and_parts (form_fits n) (coefficients_fit (mapped m i j e)) (sym (fold-pad_r Bool (form_step form_fits) _ _) ∙ h)).1
+  own_causes (trunc_l n e) i j h =
+      own_causes e i j (and_parts (form_fits n) (coefficients_fit (mapped m i j e)) (sym (fold-trunc_l Bool (form_step form_fits) _ _) ∙ h)).1
+  own_causes (trunc_r n e) i j h =
+      own_causes e i j (and_parts (form_fits n) (coefficients_fit (mapped m i j e)) (sym (fold-trunc_r Bool (form_step form_fits) _ _) ∙ h)).1
+  own_causes (pad_l n e) i j h =
+      own_causes e i j (and_parts (form_fits n) (coefficients_fit (mapped m i j e)) (sym (fold-pad_l Bool (form_step form_fits) _ _) ∙ h)).1
+  own_causes (pad_r n e) i j h =
+      own_causes e i j (and_parts (form_fits n) (coefficients_fit (mapped m i j e)) (sym (fold-pad_r Bool (form_step form_fits) _ _) ∙ h)).1
 
 -- a refusal of the whole walk is a coefficient that is too large, or one of the map at a variable of the term
 module _ (m : Replacement) (r : Refusals) (term : Term) where
@@ -93,13 +106,15 @@ module _ (m : Replacement) (r : Refusals) (term : Term) where
   cause_of : (e : MapRefusal) → part_causes m r term 0 0 e ≡ true → some_place (form_causes m r e) (tensor_refused r e) term 0 0 ≡ true
   cause_of e h = sym (place_fold-is (form_causes m r e) (tensor_refused r e) term 0 0) ∙ h
 
-  too_large : (b : Bool) → coefficients_fit whole ≡ b → part_causes m r term 0 0 CoefficientTooLarge ≡ true → (coefficients_fit whole ≡ false) ⊎ (refused r term CoefficientTooLarge ≡ true)
+  too_large : (b : Bool) → coefficients_fit whole ≡ b → part_causes m r term 0 0 CoefficientTooLarge ≡ true → (coefficients_fit whole ≡ false)
+      ⊎ (refused r term CoefficientTooLarge ≡ true)
   unfolding form_causes
   too_large false f h = inl f
   too_large true f h =
       inr (sym (own_causes m (form_refused r CoefficientTooLarge) (tensor_refused r CoefficientTooLarge) term 0 0 f) ∙ cause_of CoefficientTooLarge h)
 
-  own_refusal : (e : MapRefusal) → ((i j : ℕ) (x : Items) → form_causes m r e i j x ≡ form_refused r e i j x) → part_causes m r term 0 0 e ≡ true → refused r term e ≡ true
+  own_refusal : (e : MapRefusal) → ((i j : ℕ) (x : Items) → form_causes m r e i j x ≡ form_refused r e i j x) → part_causes m r term 0 0 e ≡ true
+      → refused r term e ≡ true
   own_refusal e same h =
       sym (λ t. some_place (λ i j x. same i j x t) (tensor_refused r e) term 0 0) ∙ cause_of e h
 
@@ -114,13 +129,15 @@ module _ (m : Replacement) (r : Refusals) (term : Term) where
   pub some_part : (o : Option Term) (x : Term) → o ≡ Some x → IsPartOf (map_fold m term 0 0) (part_causes m r term 0 0) (Ok o) → x ≡ whole
   some_part o x s p = (subst (λ o. IsPartOf (map_fold m term 0 0) (part_causes m r term 0 0) (Ok o)) s p).0 ∙ map_fold-is m term 0 0
 
-  pub too_long_of : (o : Option Term) → o ≡ None → IsPartOf (map_fold m term 0 0) (part_causes m r term 0 0) (Ok o) → IsMapped whole (refused r term) (Err IndexTooLong)
+  pub too_long_of : (o : Option Term) → o ≡ None → IsPartOf (map_fold m term 0 0) (part_causes m r term 0 0) (Ok o)
+      → IsMapped whole (refused r term) (Err IndexTooLong)
   too_long_of o s p =
       let q = subst (λ o. IsPartOf (map_fold m term 0 0) (part_causes m r term 0 0) (Ok o)) s p in
       let e = sym (map_fold-is m term 0 0) in
       inl (ap coefficients_fit e ∙ q.0, ap forms_short e ∙ q.1)
 
-pub keeps_of : (m : Replacement) (e : Term) (own : MapRefusal → Bool) (a : Result Term MapRefusal) → AllOrdered e → IsMapped (mapped m 0 0 e) own a → IfOk a (Keeps m e)
+pub keeps_of : (m : Replacement) (e : Term) (own : MapRefusal → Bool) (a : Result Term MapRefusal) → AllOrdered e → IsMapped (mapped m 0 0 e) own a
+    → IfOk a (Keeps m e)
 keeps_of m e own (Ok x) ok h = subst (Keeps m e) (sym h.0) (mapped_keeps m e ok)
 keeps_of m e own (Err x) ok h = tt
 

@@ -1,5 +1,6 @@
 -- Lists made of a function of the index, and rows joined, in chunks and transposed.
-use Rattle.std.proofs.Common.{◌≡◌, ℕ, zero, suc, ◌+◌, ◌-◌, ◌*◌, ◌<◌, ◌≤◌, List, [], ◌∷◌, ◌++◌, length, map, drop, take, get_or, refl, ap, sym, ◌∙◌, arith, zero-add}
+use Rattle.std.proofs.Common.{◌≡◌, ℕ, zero, suc, ◌+◌, ◌-◌, ◌*◌, ◌<◌, ◌≤◌, List, [], ◌∷◌, ◌++◌, length, map, drop, take, get_or, refl, ap, sym, ◌∙◌, arith}
+use Rattle.std.proofs.Common.{zero-add}
 use Rattle.term_tree.proofs.TensorLaws.{rows_of-from_rows}
 use Rattle.term_tree.specs.Meaning.{chunks, columns}
 use Rattle.term_tree.specs.Tensors.{Tensor, rows_of, from_rows, copies, tabulate, joined, drop_last}
@@ -29,7 +30,8 @@ module _ {A : Type 0} where
   tabulate-add (suc m) n f =
       let e : suc m + n ≡ suc (m + n) = omega arith in
       let at : (i : ℕ) → suc (m + i) ≡ suc m + i = λ i. omega arith in
-      (λ j. tabulate (e j) f) ∙ (λ j. f zero ∷ tabulate-add m n (λ i. f (suc i)) j) ∙ (λ j. f zero ∷ (tabulate m (λ i. f (suc i)) ++ tabulate n (λ i. f (at i j))))
+      (λ j. tabulate (e j) f) ∙ (λ j. f zero ∷ tabulate-add m n (λ i. f (suc i)) j)
+          ∙ (λ j. f zero ∷ (tabulate m (λ i. f (suc i)) ++ tabulate n (λ i. f (at i j))))
 
   pub drop_last-tabulate : (a m n : ℕ) (f : ℕ → A) → m + a ≡ n → drop_last a (tabulate n f) ≡ tabulate m f
   drop_last-tabulate a m n f h =
@@ -72,7 +74,8 @@ module _ {A : Type 0} where
       drop-front (suc m) (x ∷ xs) ys e = drop-front m xs ys (omega (arith, e))
 
 -- chunks of k rows of a list that has them all
-pub chunks-tabulate : (k p : ℕ) (z : Tensor) (g : ℕ → Tensor) → chunks p k z (tabulate (k * p) g) ≡ tabulate p (λ i. from_rows (tabulate k (λ j. g (k * i + j))))
+pub chunks-tabulate : (k p : ℕ) (z : Tensor) (g : ℕ → Tensor)
+    → chunks p k z (tabulate (k * p) g) ≡ tabulate p (λ i. from_rows (tabulate k (λ j. g (k * i + j))))
 chunks-tabulate k zero z g = refl
 chunks-tabulate k (suc p) z g =
     let first : (j : ℕ) → k * 0 + j ≡ j = λ j. omega arith in
@@ -89,7 +92,8 @@ chunks-tabulate k (suc p) z g =
 pub columns-tabulate : (n m : ℕ) (z : Tensor) (f : ℕ → ℕ → Tensor) →
     columns m z (tabulate n (λ i. from_rows (tabulate m (f i)))) ≡ tabulate m (λ j. from_rows (tabulate n (λ i. f i j)))
 columns-tabulate n m z f =
-    same_tabulate m (λ j. from_rows (map (λ row. get_or (rows_of row) j z) (tabulate n (λ i. from_rows (tabulate m (f i)))))) (λ j. from_rows (tabulate n (λ i. f i j)))
+    same_tabulate m (λ j. from_rows (map (λ row. get_or (rows_of row) j z) (tabulate n (λ i. from_rows (tabulate m (f i))))))
+        (λ j. from_rows (tabulate n (λ i. f i j)))
     (λ j b. ap from_rows (map-tabulate (λ row. get_or (rows_of row) j z) n (λ i. from_rows (tabulate m (f i))))
     ∙ (λ l. from_rows (tabulate n (λ i. (ap (λ rows. get_or rows j z) (rows_of-from_rows (tabulate m (f i))) ∙ get_or-tabulate m (f i) j z b) l))))
 

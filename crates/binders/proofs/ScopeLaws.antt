@@ -1,5 +1,6 @@
 -- Replacements in scope leave a term well scoped, and those of the three plain maps are in scope.
-use Rattle.std.proofs.Common.{◌≡◌, ℕ, suc, ◌+◌, ◌-◌, ◌<◌, ◌≤◌, List, [], ◌∷◌, length, map, refl, ap, sym, ◌∙◌, arith, Bool, true, false, not, ◌&&◌, cond, nat_lt, if◌then◌else◌, Result, Ok, Err, IfOk, subst}
+use Rattle.std.proofs.Common.{◌≡◌, ℕ, suc, ◌+◌, ◌-◌, ◌<◌, ◌≤◌, List, [], ◌∷◌, length, map, refl, ap, sym, ◌∙◌, arith, Bool, true, false, not, ◌&&◌, cond}
+use Rattle.std.proofs.Common.{nat_lt, if◌then◌else◌, Result, Ok, Err, IfOk, subst}
 use Rattle.std.proofs.lemmas.Bool.{and_from, and_parts, lt-ltb, ltb-true, ltb-false}
 use Rattle.affine_index.specs.Condition.{all_scoped}
 use Rattle.affine_index.specs.Form.{var_form}
@@ -40,7 +41,8 @@ module _ (m : Replacement) (sizes v t v' t' : ℕ) (sends : SendsScope m sizes v
       → (term_scoped sizes (mapped m i j a) (v' + i) (t' + j) && term_scoped sizes (mapped m i j b) (v' + i) (t' + j)) ≡ true
   both a b i j f g h = let p = and_parts (term_scoped sizes a (v + i) (t + j)) (term_scoped sizes b (v + i) (t + j)) h in and_from _ _ (f p.0) (g p.1)
 
-  kept : (e : Term) (b : Bool) (i j : ℕ) → ScopedAt e i j → (b && term_scoped sizes e (v + i) (t + j)) ≡ true → (b && term_scoped sizes (mapped m i j e) (v' + i) (t' + j)) ≡ true
+  kept : (e : Term) (b : Bool) (i j : ℕ) → ScopedAt e i j → (b && term_scoped sizes e (v + i) (t + j)) ≡ true
+      → (b && term_scoped sizes (mapped m i j e) (v' + i) (t' + j)) ≡ true
   kept e b i j f h = let p = and_parts b (term_scoped sizes e (v + i) (t + j)) h in and_from b _ p.0 (f p.1)
 
   under_index : (e : Term) (b : Bool) (i j : ℕ) → ScopedAt e (suc i) j → (b && term_scoped sizes e (v + i + 1) (t + j)) ≡ true
@@ -88,7 +90,8 @@ module _ (m : Replacement) (sizes v t v' t' : ℕ) (sends : SendsScope m sizes v
 pub mapped_scope : (m : Replacement) (e : Term) → KeepsScope m e (mapped m 0 0 e)
 mapped_scope m e sizes v t v' t' sends h =
     let none : (n : ℕ) → n + 0 ≡ n = λ n. omega arith in
-    sym (λ k. term_scoped sizes (mapped m 0 0 e) (none v' k) (none t' k)) ∙ mapped-scoped m sizes v t v' t' sends e 0 0 ((λ k. term_scoped sizes e (none v k) (none t k)) ∙ h)
+    sym (λ k. term_scoped sizes (mapped m 0 0 e) (none v' k) (none t' k))
+        ∙ mapped-scoped m sizes v t v' t' sends e 0 0 ((λ k. term_scoped sizes e (none v k) (none t k)) ∙ h)
 
 -- what a map answers
 pub scope_of : (m : Replacement) (e : Term) (own : MapRefusal → Bool) (a : Result Term MapRefusal) → IsMapped (mapped m 0 0 e) own a → IfOk a (KeepsScope m e)
@@ -131,17 +134,20 @@ scopes_put_index by under sizes v t forms = record { index_scoped = λ i j w h. 
         var-scoped sizes (under + v + i) (w - length by + under) (omega (arith, h, l, k))
 
     first : (i w : ℕ) → w < length by + v + i → (b : Bool) → nat_lt w i ≡ b
-        → items_scoped sizes (under + v + i) (if b then var_form w else (if nat_lt (w - i) (length by) then shifted 0 i (given by (w - i)) else var_form (w - length by + under))) ≡ true
+        → items_scoped sizes (under + v + i)
+            (if b then var_form w else (if nat_lt (w - i) (length by) then shifted 0 i (given by (w - i)) else var_form (w - length by + under))) ≡ true
     first i w h true c = let k = ltb-true w i c in var-scoped sizes (under + v + i) w (omega (arith, k))
     first i w h false c = second i w h (ltb-false w i c) (nat_lt (w - i) (length by)) refl
 
 pub scopes_put_tensor : (by : Term) (under : ℕ) → ScopesPutTensor by under
-scopes_put_tensor by under sizes v t scoped = record { index_scoped = λ i j w h. var-scoped sizes (v + i) w h; tensor_scoped = λ i j q h. first i j q h (nat_lt q j) refl }
+scopes_put_tensor by under sizes v t scoped =
+    record { index_scoped = λ i j w h. var-scoped sizes (v + i) w h; tensor_scoped = λ i j q h. first i j q h (nat_lt q j) refl }
   where
     shifted_by : (i j : ℕ) → term_scoped sizes (mapped (shift_map i j) 0 0 by) (v + i) (under + t + j) ≡ true
     shifted_by i j = mapped_scope (shift_map i j) by sizes v (under + t) (v + i) (under + t + j) (scopes_shift i j sizes v (under + t)) scoped
 
-    second : (i j q : ℕ) → q < t + 1 + j → (b : Bool) → nat_lt j q ≡ b → term_scoped sizes (if b then TVar (q - 1 + under) else mapped (shift_map i j) 0 0 by) (v + i) (under + t + j) ≡ true
+    second : (i j q : ℕ) → q < t + 1 + j → (b : Bool) → nat_lt j q ≡ b
+        → term_scoped sizes (if b then TVar (q - 1 + under) else mapped (shift_map i j) 0 0 by) (v + i) (under + t + j) ≡ true
     second i j q h true c = let k = ltb-true j q c in lt-ltb (q - 1 + under) (under + t + j) (omega (arith, h, k))
     second i j q h false c = shifted_by i j
 

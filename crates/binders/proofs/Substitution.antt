@@ -1,5 +1,6 @@
 -- A replacement that sends values keeps the extents and the meaning of a term.
-use Rattle.std.proofs.Common.{◌≡◌, ℕ, suc, ◌+◌, ◌-◌, ◌*◌, ◌/◌, ◌%◌, ◌^◌, List, [], ◌∷◌, ◌++◌, length, map, drop, refl, ap, sym, ◌∙◌, Bool, true, ◌&&◌, if◌then◌else◌}
+use Rattle.std.proofs.Common.{◌≡◌, ℕ, suc, ◌+◌, ◌-◌, ◌*◌, ◌/◌, ◌%◌, ◌^◌, List, [], ◌∷◌, ◌++◌, length, map, drop, refl, ap, sym, ◌∙◌, Bool, true, ◌&&◌}
+use Rattle.std.proofs.Common.{if◌then◌else◌}
 use Rattle.std.specs.Prelude.{slice_index, pos}
 use Rattle.std.proofs.lemmas.Bool.{and_parts}
 use Rattle.affine_index.specs.Value.{items_value}
@@ -13,7 +14,8 @@ use Rattle.affine_index.specs.declared.cond.Cmp.TheVariants.{Ge, Eq}
 use Rattle.term_tree.specs.Limits.{each_cmp, every_form, form_step}
 use Rattle.term_tree.specs.declared.term.Term.{Term, Lit, TVar, WordOf}
 use Rattle.term_tree.specs.Syntax.{index, gen, sum, guard, let_in, add, sub, mul, concat, flatten, split, transpose, trunc_l, trunc_r, pad_l, pad_r}
-use Rattle.term_tree.proofs.Folds.{fold-word_of, fold-index, fold-gen, fold-sum, fold-guard, fold-let_in, fold-add, fold-sub, fold-mul, fold-concat, fold-flatten, fold-split, fold-transpose, fold-trunc_l, fold-trunc_r, fold-pad_l, fold-pad_r}
+use Rattle.term_tree.proofs.Folds.{fold-word_of, fold-index, fold-gen, fold-sum, fold-guard, fold-let_in, fold-add, fold-sub, fold-mul, fold-concat}
+use Rattle.term_tree.proofs.Folds.{fold-flatten, fold-split, fold-transpose, fold-trunc_l, fold-trunc_r, fold-pad_l, fold-pad_r}
 use Rattle.term_tree.specs.Meaning.{word_of, extent, head_of, tail_of, dims, den, row_at, chunks, columns, Bound, extents_of}
 use Rattle.term_tree.specs.Tensors.{Word, rows_of, from_rows, by_places, copies, zeros, tabulate, total, joined, drop_last}
 use Rattle.binders.specs.Maps.{Replacement, put_cmp, mapped, Sends, Keeps}
@@ -40,7 +42,8 @@ module _ (m : Replacement) (s r : List ℕ) (t : List Bound) (r' : List ℕ) (t'
     pub extents : dims (mapped m (length is) (length ts) e) s (extents_of (ts ++ t')) ≡ dims e s (extents_of (ts ++ t))
     pub meaning : den (mapped m (length is) (length ts) e) s (is ++ r') (ts ++ t') ≡ den e s (is ++ r) (ts ++ t)
 
-  index_same : (is : List ℕ) (ts : List Bound) (x : Items) → is_ordered x ≡ true → items_value s (is ++ r') (put_all (m.for_index (length is) (length ts)) x) ≡ items_value s (is ++ r) x
+  index_same : (is : List ℕ) (ts : List Bound) (x : Items) → is_ordered x ≡ true
+      → items_value s (is ++ r') (put_all (m.for_index (length is) (length ts)) x) ≡ items_value s (is ++ r) x
   index_same is ts x ok = value-put_all s (is ++ r) (is ++ r') (m.for_index (length is) (length ts)) (law.index_value is ts) x ok
 
   pub mapped_same : (e : Term) → AllOrdered e → (is : List ℕ) (ts : List Bound) → Same e is ts
@@ -76,7 +79,8 @@ module _ (m : Replacement) (s r : List ℕ) (t : List Bound) (r' : List ℕ) (t'
       let h = mapped_same e f.1 is ts in
       record {
         extents = h.extents;
-        meaning = λ i. if all_same (m.for_index (length is) (length ts)) s (is ++ r) (is ++ r') (law.index_value is ts) c.all f.0 i then h.meaning i else zeros (h.extents i);
+        meaning = λ i. if all_same (m.for_index (length is) (length ts)) s (is ++ r) (is ++ r') (law.index_value is ts) c.all f.0 i then h.meaning i else zeros
+            (h.extents i);
       }
   mapped_same (let_in a b) ok is ts =
       let f = and_parts (every_form is_ordered a) (every_form is_ordered b) (sym (fold-let_in Bool (form_step is_ordered) a b) ∙ ok) in

@@ -1,5 +1,6 @@
 -- A term in which a variable does not occur means the same whatever the value of the variable.
-use Rattle.std.proofs.Common.{◌≡◌, ℕ, zero, suc, ◌+◌, ◌-◌, ◌*◌, ◌/◌, ◌%◌, ◌^◌, List, [], ◌∷◌, ◌++◌, length, drop, get_or, refl, ap, sym, ◌∙◌, arith, false, ◌&&◌, ◌==◌, if◌then◌else◌, eq-eqb}
+use Rattle.std.proofs.Common.{◌≡◌, ℕ, zero, suc, ◌+◌, ◌-◌, ◌*◌, ◌/◌, ◌%◌, ◌^◌, List, [], ◌∷◌, ◌++◌, length, drop, get_or, refl, ap, sym, ◌∙◌, arith, false}
+use Rattle.std.proofs.Common.{◌&&◌, ◌==◌, if◌then◌else◌, eq-eqb}
 use Rattle.std.proofs.lemmas.Bool.{or_parts}
 use Rattle.std.specs.Prelude.{slice_index}
 use Rattle.affine_index.specs.Value.{items_value}
@@ -61,17 +62,27 @@ index_same (let_in a b) v s r r' t h free =
     let f = or_parts (uses_index a v) (uses_index b v) free in
     (λ i. den b s r ((dims a s (extents_of t), index_same a v s r r' t h f.0 i) ∷ t))
     ∙ index_same b v s r r' ((dims a s (extents_of t), den a s r' t) ∷ t) h f.1
-index_same (add a b) v s r r' t h free = let f = or_parts (uses_index a v) (uses_index b v) free in λ i. by_places (λ v w. (v + w) % 2 ^ 64) (index_same a v s r r' t h f.0 i) (index_same b v s r r' t h f.1 i)
-index_same (sub a b) v s r r' t h free = let f = or_parts (uses_index a v) (uses_index b v) free in λ i. by_places (λ v w. (v + (2 ^ 64 - w)) % 2 ^ 64) (index_same a v s r r' t h f.0 i) (index_same b v s r r' t h f.1 i)
-index_same (mul a b) v s r r' t h free = let f = or_parts (uses_index a v) (uses_index b v) free in λ i. by_places (λ v w. (v * w) % 2 ^ 64) (index_same a v s r r' t h f.0 i) (index_same b v s r r' t h f.1 i)
-index_same (concat a b) v s r r' t h free = let f = or_parts (uses_index a v) (uses_index b v) free in λ i. from_rows (rows_of (index_same a v s r r' t h f.0 i) ++ rows_of (index_same b v s r r' t h f.1 i))
+index_same (add a b) v s r r' t h free = let f = or_parts (uses_index a v) (uses_index b v) free in
+    λ i. by_places (λ v w. (v + w) % 2 ^ 64) (index_same a v s r r' t h f.0 i) (index_same b v s r r' t h f.1 i)
+index_same (sub a b) v s r r' t h free = let f = or_parts (uses_index a v) (uses_index b v) free in
+    λ i. by_places (λ v w. (v + (2 ^ 64 - w)) % 2 ^ 64) (index_same a v s r r' t h f.0 i) (index_same b v s r r' t h f.1 i)
+index_same (mul a b) v s r r' t h free = let f = or_parts (uses_index a v) (uses_index b v) free in
+    λ i. by_places (λ v w. (v * w) % 2 ^ 64) (index_same a v s r r' t h f.0 i) (index_same b v s r r' t h f.1 i)
+index_same (concat a b) v s r r' t h free = let f = or_parts (uses_index a v) (uses_index b v) free in
+    λ i. from_rows (rows_of (index_same a v s r r' t h f.0 i) ++ rows_of (index_same b v s r r' t h f.1 i))
 index_same (flatten e) v s r r' t h free = λ i. from_rows (joined (rows_of (index_same e v s r r' t h free i)))
-index_same (split k e) v s r r' t h free = λ i. let d = dims e s (extents_of t) in from_rows (chunks ((head_of d + k - 1) / k) k (zeros (tail_of d)) (rows_of (index_same e v s r r' t h free i)))
-index_same (transpose e) v s r r' t h free = λ i. let d = dims e s (extents_of t) in from_rows (columns (head_of (tail_of d)) (zeros (tail_of (tail_of d))) (rows_of (index_same e v s r r' t h free i)))
-index_same (trunc_l n e) v s r r' t h free = let f = or_parts (uses v n) (uses_index e v) free in λ i. from_rows (drop (extent n s) (rows_of (index_same e v s r r' t h f.1 i)))
-index_same (trunc_r n e) v s r r' t h free = let f = or_parts (uses v n) (uses_index e v) free in λ i. from_rows (drop_last (extent n s) (rows_of (index_same e v s r r' t h f.1 i)))
-index_same (pad_l n e) v s r r' t h free = let f = or_parts (uses v n) (uses_index e v) free in λ i. from_rows (copies (extent n s) (zeros (tail_of (dims e s (extents_of t)))) ++ rows_of (index_same e v s r r' t h f.1 i))
-index_same (pad_r n e) v s r r' t h free = let f = or_parts (uses v n) (uses_index e v) free in λ i. from_rows (rows_of (index_same e v s r r' t h f.1 i) ++ copies (extent n s) (zeros (tail_of (dims e s (extents_of t)))))
+index_same (split k e) v s r r' t h free = λ i. let d = dims e s (extents_of t) in
+    from_rows (chunks ((head_of d + k - 1) / k) k (zeros (tail_of d)) (rows_of (index_same e v s r r' t h free i)))
+index_same (transpose e) v s r r' t h free = λ i. let d = dims e s (extents_of t) in
+    from_rows (columns (head_of (tail_of d)) (zeros (tail_of (tail_of d))) (rows_of (index_same e v s r r' t h free i)))
+index_same (trunc_l n e) v s r r' t h free = let f = or_parts (uses v n) (uses_index e v) free in
+    λ i. from_rows (drop (extent n s) (rows_of (index_same e v s r r' t h f.1 i)))
+index_same (trunc_r n e) v s r r' t h free = let f = or_parts (uses v n) (uses_index e v) free in
+    λ i. from_rows (drop_last (extent n s) (rows_of (index_same e v s r r' t h f.1 i)))
+index_same (pad_l n e) v s r r' t h free = let f = or_parts (uses v n) (uses_index e v) free in
+    λ i. from_rows (copies (extent n s) (zeros (tail_of (dims e s (extents_of t)))) ++ rows_of (index_same e v s r r' t h f.1 i))
+index_same (pad_r n e) v s r r' t h free = let f = or_parts (uses v n) (uses_index e v) free in
+    λ i. from_rows (rows_of (index_same e v s r r' t h f.1 i) ++ copies (extent n s) (zeros (tail_of (dims e s (extents_of t)))))
 
 pub ignores_index : (e : Term) (v : ℕ) → uses_index e v ≡ false → IgnoresIndex e v
 ignores_index e v free s is r a b t n =
@@ -118,7 +129,8 @@ tensor_same (gen n e) v s r t t' h free = record {
 }
 tensor_same (sum n e) v s r t t' h free = record {
   extents = (tensor_same e v s (0 ∷ r) t t' h free).extents;
-  meaning = λ i. total (zeros ((tensor_same e v s (0 ∷ r) t t' h free).extents i)) (tabulate (extent n s) (λ k. (tensor_same e v s (k ∷ r) t t' h free).meaning i));
+  meaning = λ i. total (zeros ((tensor_same e v s (0 ∷ r) t t' h free).extents i))
+      (tabulate (extent n s) (λ k. (tensor_same e v s (k ∷ r) t t' h free).meaning i));
 }
 tensor_same (guard c e) v s r t t' h free = let g = tensor_same e v s r t t' h free in record {
   extents = g.extents;
@@ -133,10 +145,16 @@ tensor_same (let_in a b) v s r t t' h free =
       extents = (λ i. dims b s (g.extents i ∷ extents_of t)) ∙ k.extents;
       meaning = (λ i. den b s r ((g.extents i, g.meaning i) ∷ t)) ∙ k.meaning;
     }
-tensor_same (add a b) v s r t t' h free = let f = or_parts (uses_tensor a v) (uses_tensor b v) free in let g = tensor_same a v s r t t' h f.0 in let k = tensor_same b v s r t t' h f.1 in record { extents = g.extents; meaning = λ i. by_places (λ v w. (v + w) % 2 ^ 64) (g.meaning i) (k.meaning i) }
-tensor_same (sub a b) v s r t t' h free = let f = or_parts (uses_tensor a v) (uses_tensor b v) free in let g = tensor_same a v s r t t' h f.0 in let k = tensor_same b v s r t t' h f.1 in record { extents = g.extents; meaning = λ i. by_places (λ v w. (v + (2 ^ 64 - w)) % 2 ^ 64) (g.meaning i) (k.meaning i) }
-tensor_same (mul a b) v s r t t' h free = let f = or_parts (uses_tensor a v) (uses_tensor b v) free in let g = tensor_same a v s r t t' h f.0 in let k = tensor_same b v s r t t' h f.1 in record { extents = refl; meaning = λ i. by_places (λ v w. (v * w) % 2 ^ 64) (g.meaning i) (k.meaning i) }
-tensor_same (concat a b) v s r t t' h free = let f = or_parts (uses_tensor a v) (uses_tensor b v) free in let g = tensor_same a v s r t t' h f.0 in let k = tensor_same b v s r t t' h f.1 in record { extents = λ i. (head_of (g.extents i) + head_of (k.extents i)) ∷ tail_of (g.extents i); meaning = λ i. from_rows (rows_of (g.meaning i) ++ rows_of (k.meaning i)) }
+tensor_same (add a b) v s r t t' h free = let f = or_parts (uses_tensor a v) (uses_tensor b v) free in let g = tensor_same a v s r t t' h f.0 in let k =
+    tensor_same b v s r t t' h f.1 in record { extents = g.extents; meaning = λ i. by_places (λ v w. (v + w) % 2 ^ 64) (g.meaning i) (k.meaning i) }
+tensor_same (sub a b) v s r t t' h free = let f = or_parts (uses_tensor a v) (uses_tensor b v) free in let g = tensor_same a v s r t t' h f.0 in let k =
+    tensor_same b v s r t t' h f.1 in record { extents = g.extents; meaning = λ i. by_places (λ v w. (v + (2 ^ 64 - w)) % 2 ^ 64) (g.meaning i) (k.meaning i) }
+tensor_same (mul a b) v s r t t' h free = let f = or_parts (uses_tensor a v) (uses_tensor b v) free in let g = tensor_same a v s r t t' h f.0 in let k =
+    tensor_same b v s r t t' h f.1 in record { extents = refl; meaning = λ i. by_places (λ v w. (v * w) % 2 ^ 64) (g.meaning i) (k.meaning i) }
+tensor_same (concat a b) v s r t t' h free = let f = or_parts (uses_tensor a v) (uses_tensor b v) free in let g = tensor_same a v s r t t' h f.0 in let k =
+    tensor_same b v s r t t' h f.1 in
+    record { extents = λ i. (head_of (g.extents i) + head_of (k.extents i)) ∷ tail_of (g.extents i); meaning =
+    λ i. from_rows (rows_of (g.meaning i) ++ rows_of (k.meaning i)) }
 tensor_same (flatten e) v s r t t' h free = let g = tensor_same e v s r t t' h free in record {
   extents = ap (λ d. (head_of d * head_of (tail_of d)) ∷ tail_of (tail_of d)) g.extents;
   meaning = λ i. from_rows (joined (rows_of (g.meaning i)));

@@ -1,5 +1,6 @@
 -- The three plain replacements, and that each sends values.
-use Rattle.std.specs.Prelude.{◌≡◌, ℕ, ◌+◌, ◌-◌, ◌^◌, ◌<◌, Bool, true, ◌&&◌, ◌||◌, not, cond, nat_le, nat_lt, if◌then◌else◌, List, ◌∷◌, ◌++◌, length, slice_index, pos}
+use Rattle.std.specs.Prelude.{◌≡◌, ℕ, ◌+◌, ◌-◌, ◌^◌, ◌<◌, Bool, true, ◌&&◌, ◌||◌, not, cond, nat_le, nat_lt, if◌then◌else◌, List, ◌∷◌, ◌++◌, length}
+use Rattle.std.specs.Prelude.{slice_index, pos}
 use Rattle.affine_index.specs.Form.{var_form}
 use Rattle.affine_index.specs.Put.{given, moved, numbers_fit, shifted}
 use Rattle.affine_index.specs.Value.{items_value}

@@ -48,7 +48,8 @@ moved_by_two : mapped (shift_map 3 2) 0 0 (added 1) ≡ added 3
 moved_by_two = refl
 
 gathered-is : (x : ℕ) → Gen (size_form 0) (Index (TVar 0) (sum_of (var_form x) (var_form 0))) ≡ gathered x
-gathered-is x = ap (Gen (size_form 0)) (Index-is (TVar 0) (sum_of (var_form x) (var_form 0))) ∙ Gen-is (size_form 0) (index (TVar 0) (sum_of (var_form x) (var_form 0)))
+gathered-is x = ap (Gen (size_form 0)) (Index-is (TVar 0) (sum_of (var_form x) (var_form 0)))
+    ∙ Gen-is (size_form 0) (index (TVar 0) (sum_of (var_form x) (var_form 0)))
 
 added-is : (q : ℕ) → Let (Lit 1) (Add (TVar 0) (TVar q)) ≡ added q
 added-is q = ap (Let (Lit 1)) (Add-is (TVar 0) (TVar q)) ∙ Let-is (Lit 1) (add (TVar 0) (TVar q))
@@ -66,7 +67,8 @@ one_form v (suc k) g h = absurd (omega (arith, h))
 abbrev pub MayBeMapped : (Term → Type 0) → Term → Type 0
 MayBeMapped within e = (node_depth e ≤ 2147483647) × within e
 
-pub may_put_outer : (v : ℕ) (by : List Items) (e : Term) → v < 2 → by ≡ var_form v ∷ [] → e ≡ Gen (size_form 0) (Index (TVar 0) (sum_of (var_form 1) (var_form 0)))
+pub may_put_outer : (v : ℕ) (by : List Items) (e : Term) → v < 2 → by ≡ var_form v ∷ []
+    → e ≡ Gen (size_form 0) (Index (TVar 0) (sum_of (var_form 1) (var_form 0)))
     → MayBeMapped (IsWithinReach (put_index_reach by 2)) e
 may_put_outer v by e l b s =
     let h : MayBeMapped (IsWithinReach (put_index_reach (var_form v ∷ []) 2)) (gathered 1) =

@@ -1,5 +1,6 @@
 -- One more turn of a loop that appends, and lists of parameters in parts.
-use Rattle.std.proofs.Common.{◌≡◌, ℕ, zero, suc, ◌+◌, ◌-◌, ◌<◌, ◌≤◌, List, [], ◌∷◌, ◌++◌, length, take, get_or, map, min, refl, ap, sym, ◌∙◌, append_assoc, add-one, arith}
+use Rattle.std.proofs.Common.{◌≡◌, ℕ, zero, suc, ◌+◌, ◌-◌, ◌<◌, ◌≤◌, List, [], ◌∷◌, ◌++◌, length, take, get_or, map, min, refl, ap, sym, ◌∙◌, append_assoc}
+use Rattle.std.proofs.Common.{add-one, arith}
 use Rattle.std.proofs.lemmas.List.{append-nil}
 use Rattle.std.specs.List.{flat_map, range_with_len, zip}
 use Rattle.std.proofs.lemmas.List.{take_more, take_all}
@@ -20,7 +21,9 @@ pub indentation_more : (n : ℕ) → indentation (n + 1) ≡ indentation n ++ 32
 indentation_more n = rw add-one (indentation_suc n)
 
 -- the sizes behind the first
-pub sizes_more : (n : ℕ) → 1 ≤ n → flat_map after_comma (map size_parameter (range_with_len 1 (n + 1 - 1))) ≡ flat_map after_comma (map size_parameter (range_with_len 1 (n - 1))) ++ after_comma (size_parameter n)
+pub sizes_more : (n : ℕ) → 1 ≤ n
+    → flat_map after_comma (map size_parameter (range_with_len 1 (n + 1 - 1))) ≡ flat_map after_comma (map size_parameter (range_with_len 1 (n - 1)))
+    ++ after_comma (size_parameter n)
 sizes_more n h =
     let e : n + 1 - 1 ≡ n - 1 + 1 = omega arith in
     let after : 1 + (n - 1) ≡ n = omega arith in
@@ -47,5 +50,6 @@ lengths_more sizes bs ns i d n h k e =
     rw (take_more (zip bs ns) i (d, n) within, entry, flat_map-append)
     (ap (λ t. flat_map (length_entry sizes) (take i (zip bs ns)) ++ t) (append-nil (length_line sizes (get_or bs i d) n)))
 
-pub lengths_all : (sizes : ℕ) (bs : List Buf) (ns : List Iexp) (i : ℕ) → min (length bs) (length ns) ≤ i → flat_map (length_entry sizes) (take i (zip bs ns)) ≡ length_lines sizes bs ns
+pub lengths_all : (sizes : ℕ) (bs : List Buf) (ns : List Iexp) (i : ℕ) → min (length bs) (length ns) ≤ i
+    → flat_map (length_entry sizes) (take i (zip bs ns)) ≡ length_lines sizes bs ns
 lengths_all sizes bs ns i h = ap (flat_map (length_entry sizes)) (take_all i (zip bs ns) (omega (arith, length-zip bs ns)))

@@ -9,7 +9,8 @@ use Rattle.c_print.specs.declared.level.Level.TheVariants.{Choice, Sum, Product,
 abbrev pub Text : Type 0
 Text = List ℕ
 
--- whether an expression of the first level reads as another tree where the second is the loosest that may stand; the operand on the right of an operator may only be tighter than it, since operators of one level group to the left
+-- whether an expression of the first level reads as another tree where the second is the loosest that may stand; the operand on the right of an operator may
+-- only be tighter than it, since operators of one level group to the left
 abbrev pub is_looser : Level → Level → Bool
 is_looser Choice Choice = false
 is_looser Choice place = true

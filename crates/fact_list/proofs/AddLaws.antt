@@ -39,11 +39,13 @@ without-each P a (f ∷ fs) h = by (same_atoms a f) h (without-each P a fs h.1)
 
 -- one factor more of those that differ
 different_step : (f : Facts) (gs fs : List Atom) (i : ℕ) (x : Atom) (b : Bool) → i < length fs → x ≡ get_or fs i x → stands_in x (drop (suc i) fs) ≡ b
-    → all_factor_facts f gs (different (drop i fs)) ≡ (if b then all_factor_facts f gs (different (drop (suc i) fs)) else factor_facts f gs x ++ all_factor_facts f gs (different (drop (suc i) fs)))
+    → all_factor_facts f gs (different (drop i fs)) ≡
+        (if b then all_factor_facts f gs (different (drop (suc i) fs)) else factor_facts f gs x ++ all_factor_facts f gs (different (drop (suc i) fs)))
 different_step f gs [] i x b h e s = absurd (omega arith)
 different_step f gs (g ∷ fs) zero x b h e s = ap (λ a. all_factor_facts f gs (different (a ∷ fs))) (sym e) ∙ by b (stands_in x fs) s
   where
-    by : (b c : Bool) → c ≡ b → all_factor_facts f gs (if c then different fs else x ∷ different fs) ≡ (if b then all_factor_facts f gs (different fs) else factor_facts f gs x ++ all_factor_facts f gs (different fs))
+    by : (b c : Bool) → c ≡ b → all_factor_facts f gs (if c then different fs else x ∷ different fs) ≡
+        (if b then all_factor_facts f gs (different fs) else factor_facts f gs x ++ all_factor_facts f gs (different fs))
     by true true e = refl
     by true false e = absurd (cc)
     by false true e = absurd (cc)
@@ -53,7 +55,8 @@ different_step f gs (g ∷ fs) (suc i) x b h e s = different_step f gs fs i x b 
 pub different-skip : (f : Facts) (gs fs : List Atom) (i : ℕ) (x : Atom) → i < length fs → x ≡ get_or fs i x → stands_in x (drop (i + 1) fs) ≡ true
     → all_factor_facts f gs (different (drop (i + 1) fs)) ≡ all_factor_facts f gs (different (drop i fs))
 different-skip f gs fs i x h e s =
-    ap (λ n. all_factor_facts f gs (different (drop n fs))) (turn i) ∙ sym (different_step f gs fs i x true h e (ap (λ n. stands_in x (drop n fs)) (sym (turn i)) ∙ s))
+    ap (λ n. all_factor_facts f gs (different (drop n fs))) (turn i)
+        ∙ sym (different_step f gs fs i x true h e (ap (λ n. stands_in x (drop n fs)) (sym (turn i)) ∙ s))
   where
     turn : (i : ℕ) → i + 1 ≡ suc i
     turn i = omega arith
@@ -61,7 +64,8 @@ different-skip f gs fs i x h e s =
 pub different-take : (f : Facts) (gs fs : List Atom) (i : ℕ) (x : Atom) → i < length fs → x ≡ get_or fs i x → stands_in x (drop (i + 1) fs) ≡ false
     → factor_facts f gs x ++ all_factor_facts f gs (different (drop (i + 1) fs)) ≡ all_factor_facts f gs (different (drop i fs))
 different-take f gs fs i x h e s =
-    ap (λ n. factor_facts f gs x ++ all_factor_facts f gs (different (drop n fs))) (turn i) ∙ sym (different_step f gs fs i x false h e (ap (λ n. stands_in x (drop n fs)) (sym (turn i)) ∙ s))
+    ap (λ n. factor_facts f gs x ++ all_factor_facts f gs (different (drop n fs))) (turn i)
+        ∙ sym (different_step f gs fs i x false h e (ap (λ n. stands_in x (drop n fs)) (sym (turn i)) ∙ s))
   where
     turn : (i : ℕ) → i + 1 ≡ suc i
     turn i = omega arith
@@ -76,10 +80,12 @@ facts-Var f k = ap (layer_facts f) (out-Var k)
 pub facts-Div : (f : Facts) (i : Items) (k : ℕ) → atom_facts f (Div i k) ≡ limit_facts (Div i k) (limits_of f (Div i k))
 facts-Div f i k = ap (layer_facts f) (out-Div i k) ∙ ap (limit_facts (Div i k)) (sym (limits-Div f i k))
 
-pub facts-Mul : (f : Facts) (fs : List Atom) → NormalAtom (Mul fs) → atom_facts f (Mul fs) ≡ fact_if (ProductOf (Mul fs)) (Some (single (pos 1) (Mul fs) (pos 0))) ++ all_factor_facts f fs (different fs)
+pub facts-Mul : (f : Facts) (fs : List Atom) → NormalAtom (Mul fs)
+    → atom_facts f (Mul fs) ≡ fact_if (ProductOf (Mul fs)) (Some (single (pos 1) (Mul fs) (pos 0))) ++ all_factor_facts f fs (different fs)
 facts-Mul f fs n =
     ap (layer_facts f) (out-Mul fs)
-    ∙ ap (λ o. fact_if (ProductOf (Mul fs)) o ++ all_factor_facts f fs (different fs)) (sym (kept-ok (single (pos 1) (Mul fs) (pos 0)) (single (pos 1) (Mul fs) (pos 0)) refl (once-normal (Mul fs) n)))
+    ∙ ap (λ o. fact_if (ProductOf (Mul fs)) o ++ all_factor_facts f fs (different fs))
+        (sym (kept-ok (single (pos 1) (Mul fs) (pos 0)) (single (pos 1) (Mul fs) (pos 0)) refl (once-normal (Mul fs) n)))
 
 pub meet-known : (f : Facts) (m : Met) (a : Atom) → stands_in a m.atoms ≡ true → m ≡ meet f m a
 meet-known f m a e = by (stands_in a m.atoms) e
@@ -88,10 +94,13 @@ meet-known f m a e = by (stands_in a m.atoms) e
     by true e = refl
     by false e = absurd (cc)
 
-pub meet-new : (f : Facts) (m : Met) (a : Atom) → stands_in a m.atoms ≡ false → meet f m a ≡ record { atoms = m.atoms ++ a ∷ []; facts = m.facts ++ atom_facts f a }
+pub meet-new : (f : Facts) (m : Met) (a : Atom) → stands_in a m.atoms ≡ false
+    → meet f m a ≡ record { atoms = m.atoms ++ a ∷ []; facts = m.facts ++ atom_facts f a }
 meet-new f m a e = by (stands_in a m.atoms) e
   where
-    by : (b : Bool) → b ≡ false → (if b then m else record { atoms = m.atoms ++ a ∷ []; facts = m.facts ++ atom_facts f a }) ≡ record { atoms = m.atoms ++ a ∷ []; facts = m.facts ++ atom_facts f a }
+    by : (b : Bool) → b ≡ false
+        → (if b then m else record { atoms = m.atoms ++ a ∷ []; facts = m.facts ++ atom_facts f a }) ≡ record
+        { atoms = m.atoms ++ a ∷ []; facts = m.facts ++ atom_facts f a }
     by true e = absurd (cc)
     by false e = refl
 

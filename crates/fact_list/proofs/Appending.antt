@@ -11,10 +11,12 @@ take-item xs i x h e = ap (λ n. take n xs) (turn i) ∙ take-suc xs i x h ∙ a
     turn i = omega arith
 
 -- one item more of a list that is gone through
-pub append-next : {A B : Type 0} (f : List A → List B) (g : A → List B) → ((x : A) (xs : List A) → f (x ∷ xs) ≡ g x ++ f xs) → (xs : List A) (i : ℕ) (x : A) (l m : List B) → i < length xs → x ≡ get_or xs i x
+pub append-next : {A B : Type 0} (f : List A → List B) (g : A → List B) → ((x : A) (xs : List A) → f (x ∷ xs) ≡ g x ++ f xs)
+    → (xs : List A) (i : ℕ) (x : A) (l m : List B) → i < length xs → x ≡ get_or xs i x
     → m ≡ l ++ g x → m ++ f (drop (i + 1) xs) ≡ l ++ f (drop i xs)
 append-next f g law xs i x l m h e q =
-    ap (λ y. y ++ f (drop (i + 1) xs)) q ∙ append_assoc l (g x) (f (drop (i + 1) xs)) ∙ ap (λ y. l ++ y) (sym (law x (drop (i + 1) xs)) ∙ ap f (sym (drop-item xs i x h e)))
+    ap (λ y. y ++ f (drop (i + 1) xs)) q ∙ append_assoc l (g x) (f (drop (i + 1) xs))
+        ∙ ap (λ y. l ++ y) (sym (law x (drop (i + 1) xs)) ∙ ap f (sym (drop-item xs i x h e)))
 
 -- nothing stands after the end
 pub drop-all : {A : Type 0} (n : ℕ) (xs : List A) → length xs ≤ n → drop n xs ≡ []

@@ -1,5 +1,6 @@
 -- What equality of atoms, and forms made of items, rest on.
-use Rattle.std.proofs.Common.{◌≡◌, ◌↔◌, ℕ, zero, suc, ◌+◌, ◌<◌, List, [], ◌∷◌, ◌++◌, length, take, get_or, refl, ap, sym, ◌∙◌, subst, Bool, true, false, ◌&&◌, not, IsTrue, arith}
+use Rattle.std.proofs.Common.{◌≡◌, ◌↔◌, ℕ, zero, suc, ◌+◌, ◌<◌, List, [], ◌∷◌, ◌++◌, length, take, get_or, refl, ap, sym, ◌∙◌, subst, Bool, true, false, ◌&&◌}
+use Rattle.std.proofs.Common.{not, IsTrue, arith}
 use Rattle.std.specs.Prelude.{pos}
 use Rattle.std.specs.Ordering.{int_eq, is_eq}
 use Rattle.std.specs.declared.cmp.Ordering.{Ordering}
@@ -44,7 +45,8 @@ same-test r a b h = by r (same_atoms a b) refl refl
 -- the items of a normal form have coefficients
 nonzero : (ts : List (Item Atom)) → none_zero ts ≡ true → (i : ℕ) (x : Item Atom) → i < length ts → x ≡ get_or ts i x → int_eq x.coefficient (pos 0) ≡ false
 nonzero [] n i x h e = absurd (omega arith)
-nonzero (t ∷ ts) n zero x h e = ap (λ (y : Item Atom). int_eq y.coefficient (pos 0)) e ∙ from_not (int_eq t.coefficient (pos 0)) (and_parts (not (int_eq t.coefficient (pos 0))) (none_zero ts) n).0
+nonzero (t ∷ ts) n zero x h e = ap (λ (y : Item Atom). int_eq y.coefficient (pos 0)) e
+    ∙ from_not (int_eq t.coefficient (pos 0)) (and_parts (not (int_eq t.coefficient (pos 0))) (none_zero ts) n).0
   where
     from_not : (b : Bool) → not b ≡ true → b ≡ false
     from_not true h = absurd (cc)
@@ -60,7 +62,8 @@ take_more (t ∷ ts) zero x h e = ap (λ (y : Item Atom). y ∷ []) e
 take_more (t ∷ ts) (suc i) x h e = ap (λ (us : List (Item Atom)). t ∷ us) (take_more ts i x (omega arith) e)
 
 -- one item more
-pub item-next : (ts : List (Item Atom)) (i : ℕ) (x : Item Atom) (some one more : List (Item Atom)) (f : Items) → none_zero ts ≡ true → i < length ts → x ≡ get_or ts i x
+pub item-next : (ts : List (Item Atom)) (i : ℕ) (x : Item Atom) (some one more : List (Item Atom)) (f : Items) → none_zero ts ≡ true → i < length ts
+    → x ≡ get_or ts i x
     → some ≡ take i ts → f ≡ scaled x.coefficient (of_atom x.atom) → one ≡ f.terms → more ≡ some ++ one → more ≡ take (i + 1) ts
 item-next ts i x some one more f n h e a b c d =
     d ∙ (λ k. a k ++ (c ∙ ap (λ (g : Items). g.terms) b ∙ one_item x (nonzero ts n i x h e)) k) ∙ take_more ts i x h e ∙ ap (λ (m : ℕ). take m ts) (turn i)

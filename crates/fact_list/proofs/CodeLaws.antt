@@ -1,11 +1,13 @@
 -- What the code that makes facts rests on.
-use Rattle.std.proofs.Common.{◌≡◌, ℕ, zero, suc, ◌+◌, ◌^◌, ◌<◌, ◌≤◌, List, [], ◌∷◌, map, refl, ap, sym, ◌∙◌, Bool, true, false, ◌&&◌, ◌++◌, nat_le, nat_lt, Option, Some, None, arith}
+use Rattle.std.proofs.Common.{◌≡◌, ℕ, zero, suc, ◌+◌, ◌^◌, ◌<◌, ◌≤◌, List, [], ◌∷◌, map, refl, ap, sym, ◌∙◌, Bool, true, false, ◌&&◌, ◌++◌, nat_le, nat_lt}
+use Rattle.std.proofs.Common.{Option, Some, None, arith}
 use Rattle.std.specs.Prelude.{ℤ, pos, negsuc, if◌then◌else◌, slice_get}
 use Rattle.std.specs.Int.RustNames.{unsigned_abs}
 use Rattle.std.specs.Ordering.{int_eq}
 use Rattle.std.proofs.lemmas.Bool.{and_from, and_parts}
 use Rattle.affine_index.specs.Count.{atom_count, items_count, total}
-use Rattle.affine_index.specs.Normal.{all_remainders, atom_good, coefficient_fits, coefficients_fit, has_items, holds_var, is_normal, is_ordered, is_remainder, is_short, items_good, layer_good, terms_fit}
+use Rattle.affine_index.specs.Normal.{all_remainders, atom_good, coefficient_fits, coefficients_fit, has_items, holds_var, is_normal, is_ordered, is_remainder}
+use Rattle.affine_index.specs.Normal.{is_short, items_good, layer_good, terms_fit}
 use Rattle.affine_index.specs.Product.{product_of}
 use Rattle.affine_index.proofs.CountLaws.{count-Div, count-Mul, count-Size, count-Var, count-items}
 use Rattle.affine_index.proofs.EveryLaws.{every-Size, every-Var}
@@ -18,7 +20,8 @@ use Rattle.affine_index.specs.declared.form.Atom.{Atom}
 use Rattle.affine_index.specs.declared.form.Atom.TheVariants.{Size, Var, Div, Mul}
 use Rattle.affine_index.specs.declared.form.Item.{Item}
 use Rattle.affine_index.specs.declared.form.Items.{Items}
-use Rattle.fact_list.specs.Facts.{NormalAtom, above_quotient, below_next_quotient, extent_at, where_normal, normal_product, layer_limits, limit_if, limits_of, quotient_limits, single, size_limits, var_limits}
+use Rattle.fact_list.specs.Facts.{NormalAtom, above_quotient, below_next_quotient, extent_at, where_normal, normal_product, layer_limits, limit_if, limits_of}
+use Rattle.fact_list.specs.Facts.{quotient_limits, single, size_limits, var_limits}
 use Rattle.fact_list.specs.declared.facts.Facts.{Facts}
 use Rattle.fact_list.specs.declared.role.Side.TheVariants.{Lower, Upper}
 
@@ -75,7 +78,8 @@ short_is : (n : ℕ) → nat_le n 128 ≡ true → n ≤ 128
 short_is n h = grind arith
 
 -- a multiple of an atom of a normal form
-pub single-normal : (c : ℤ) (a : Atom) (z : ℤ) → NormalAtom a → int_eq c (pos 0) ≡ false → coefficient_fits c ≡ true → coefficient_fits z ≡ true → is_normal (single c a z) ≡ true
+pub single-normal : (c : ℤ) (a : Atom) (z : ℤ) → NormalAtom a → int_eq c (pos 0) ≡ false → coefficient_fits c ≡ true → coefficient_fits z ≡ true
+    → is_normal (single c a z) ≡ true
 single-normal c a z n e f g =
     let i = single c a z in
     and_from (is_ordered i) (coefficients_fit i && is_short i) (terms-ordered i ((tt, tt), ((n.0, e), tt)))
@@ -91,7 +95,8 @@ single-other c a z h g =
     let q = and_parts (coefficients_fit i) (is_short i) p.1 in
     let w = and_parts (terms_fit i.terms) (coefficient_fits (pos 0)) q.0 in
     and_from (is_ordered j) (coefficients_fit j && is_short j) (terms-ordered j (ordered-terms i p.0))
-    (and_from (coefficients_fit j) (is_short j) (and_from (terms_fit i.terms) (coefficient_fits z) w.0 g) (ap (λ (n : ℕ). nat_le n 128) (count-items j ∙ sym (count-items i)) ∙ q.1))
+    (and_from (coefficients_fit j) (is_short j) (and_from (terms_fit i.terms) (coefficient_fits z) w.0 g)
+        (ap (λ (n : ℕ). nat_le n 128) (count-items j ∙ sym (count-items i)) ∙ q.1))
 
 large_is : (z : ℤ) → 2 ^ 40 < unsigned_abs z → coefficient_fits z ≡ false
 large_is z h = grind arith
@@ -157,7 +162,8 @@ dividend i k n =
       some = bounds.0;
       most = bounds.1;
       normal = and_from (is_ordered i) (coefficients_fit i && is_short i) parts.1
-          (and_from (coefficients_fit i) (is_short i) (and_from (terms_fit i.terms) (coefficient_fits i.constant) (remainders_fit k i.terms bounds.1 d.0) (remainder_fits k i.constant bounds.1 d.1))
+          (and_from (coefficients_fit i) (is_short i)
+              (and_from (terms_fit i.terms) (coefficient_fits i.constant) (remainders_fit k i.terms bounds.1 d.0) (remainder_fits k i.constant bounds.1 d.1))
           (short_from (items_count i) (omega (arith, count-Div i k, n.1))));
     }
 
@@ -173,7 +179,8 @@ quotient-times i k z n h =
     single-normal (pos k) (Div i k) (pos z) n (positive_other k d.some) (small_is (pos k) (omega (arith, d.most))) (small_is (pos z) (omega (arith, d.most, h)))
 
 -- the two bounds of a quotient by a number above 0
-pub quotient-limits_is : (i : Items) (k : ℕ) → 0 < k → quotient_limits i k ≡ limit_if Upper (where_normal (above_quotient i k)) ++ limit_if Lower (where_normal (below_next_quotient i k))
+pub quotient-limits_is : (i : Items) (k : ℕ) → 0 < k
+    → quotient_limits i k ≡ limit_if Upper (where_normal (above_quotient i k)) ++ limit_if Lower (where_normal (below_next_quotient i k))
 quotient-limits_is i zero h = absurd (omega arith)
 quotient-limits_is i (suc k) h = refl
 

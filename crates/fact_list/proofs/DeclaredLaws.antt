@@ -1,5 +1,6 @@
 -- What the code that lists the declared facts rests on.
-use Rattle.std.proofs.Common.{◌≡◌, ℕ, zero, suc, ◌+◌, ◌<◌, ◌≤◌, List, [], ◌∷◌, ◌++◌, length, drop, get_or, append_assoc, refl, ap, sym, ◌∙◌, Bool, true, false, Option, Some, None, arith}
+use Rattle.std.proofs.Common.{◌≡◌, ℕ, zero, suc, ◌+◌, ◌<◌, ◌≤◌, List, [], ◌∷◌, ◌++◌, length, drop, get_or, append_assoc, refl, ap, sym, ◌∙◌, Bool, true, false}
+use Rattle.std.proofs.Common.{Option, Some, None, arith}
 use Rattle.std.specs.Prelude.{pos, if◌then◌else◌}
 use Rattle.std.proofs.lemmas.Bool.{and_parts}
 use Rattle.std.proofs.Math.Seq.{drop-cons}
@@ -13,7 +14,8 @@ use Rattle.affine_index.specs.declared.form.Atom.TheVariants.{Size, Var}
 use Rattle.affine_index.specs.declared.form.Items.{Items}
 use Rattle.fact_list.proofs.Appending.{append-next, drop-item}
 use Rattle.fact_list.proofs.CodeLaws.{kept-ok, single-normal, size-less, size-once, var-atom, var-next}
-use Rattle.fact_list.specs.Facts.{above_low, below_extent, below_high, binders, bound_facts, cmps_fit, fact_if, where_normal, moved_cmp, moved_facts, moves_fit, path_facts, single, size_facts, stated, stated_facts, stated_if, step_facts, step_fits}
+use Rattle.fact_list.specs.Facts.{above_low, below_extent, below_high, binders, bound_facts, cmps_fit, fact_if, where_normal, moved_cmp, moved_facts, moves_fit}
+use Rattle.fact_list.specs.Facts.{path_facts, single, size_facts, stated, stated_facts, stated_if, step_facts, step_fits}
 use Rattle.fact_list.specs.declared.facts.PathFact.{PathFact}
 use Rattle.fact_list.specs.declared.facts.PathFact.TheVariants.{Bound, Holds}
 use Rattle.fact_list.specs.declared.facts.SizeBounds.{SizeBounds}
@@ -43,12 +45,14 @@ some_is y x true e = (cc, refl)
 some_is y x false e = absurd (cc)
 
 -- one whose moved form is kept
-pub moved-Ge : (by : ℕ) (x y : Items) → Some y ≡ where_normal (shifted 0 by x) → stated_if (is_normal (cmp_form (moved_cmp by (Ge x)))) (moved_cmp by (Ge x)) ≡ stated (Ge y) ∷ []
+pub moved-Ge : (by : ℕ) (x y : Items) → Some y ≡ where_normal (shifted 0 by x)
+    → stated_if (is_normal (cmp_form (moved_cmp by (Ge x)))) (moved_cmp by (Ge x)) ≡ stated (Ge y) ∷ []
 moved-Ge by x y e =
     let p = some_is y (shifted 0 by x) (is_normal (shifted 0 by x)) e in
     (λ k. stated_if (p.1 k) (Ge (sym p.0 k)))
 
-pub moved-Eq : (by : ℕ) (x y : Items) → Some y ≡ where_normal (shifted 0 by x) → stated_if (is_normal (cmp_form (moved_cmp by (Eq x)))) (moved_cmp by (Eq x)) ≡ stated (Eq y) ∷ []
+pub moved-Eq : (by : ℕ) (x y : Items) → Some y ≡ where_normal (shifted 0 by x)
+    → stated_if (is_normal (cmp_form (moved_cmp by (Eq x)))) (moved_cmp by (Eq x)) ≡ stated (Eq y) ∷ []
 moved-Eq by x y e =
     let p = some_is y (shifted 0 by x) (is_normal (shifted 0 by x)) e in
     (λ k. stated_if (p.1 k) (Eq (sym p.0 k)))
@@ -81,13 +85,16 @@ pub path-fits : (ps : List PathFact) (i : ℕ) (p : PathFact) → i < length ps 
     → (step_fits (binders (drop (i + 1) ps)) p ≡ true) × (moves_fit (drop (i + 1) ps) ≡ true)
 path-fits ps i p h e f = path_fits p (drop (i + 1) ps) (ap moves_fit (sym (drop-item ps i p h e)) ∙ f)
 
-pub path-next : (ps : List PathFact) (i after : ℕ) (p : PathFact) (l m : List Fact) → i < length ps → p ≡ get_or ps i p → after ≡ binders (drop (i + 1) ps) → m ≡ l ++ step_facts after p
+pub path-next : (ps : List PathFact) (i after : ℕ) (p : PathFact) (l m : List Fact) → i < length ps → p ≡ get_or ps i p → after ≡ binders (drop (i + 1) ps)
+    → m ≡ l ++ step_facts after p
     → m ++ path_facts (drop (i + 1) ps) ≡ l ++ path_facts (drop i ps)
 path-next ps i after p l m h e a q =
-    ap (λ y. y ++ path_facts (drop (i + 1) ps)) (q ∙ ap (λ n. l ++ step_facts n p) a) ∙ append_assoc l (step_facts (binders (drop (i + 1) ps)) p) (path_facts (drop (i + 1) ps))
+    ap (λ y. y ++ path_facts (drop (i + 1) ps)) (q ∙ ap (λ n. l ++ step_facts n p) a)
+        ∙ append_assoc l (step_facts (binders (drop (i + 1) ps)) p) (path_facts (drop (i + 1) ps))
     ∙ ap (λ y. l ++ y) (sym (path-step p (drop (i + 1) ps)) ∙ ap path_facts (sym (drop-item ps i p h e)))
 
-pub after-next : (ps : List PathFact) (i after count rest : ℕ) (p : PathFact) → i < length ps → p ≡ get_or ps i p → after ≡ binders (drop i ps) → ((qs : List PathFact) → binders (p ∷ qs) ≡ count + binders qs)
+pub after-next : (ps : List PathFact) (i after count rest : ℕ) (p : PathFact) → i < length ps → p ≡ get_or ps i p → after ≡ binders (drop i ps)
+    → ((qs : List PathFact) → binders (p ∷ qs) ≡ count + binders qs)
     → after ≡ count + binders (drop (i + 1) ps)
 after-next ps i after count rest p h e a b = a ∙ ap binders (drop-item ps i p h e) ∙ b (drop (i + 1) ps)
 
@@ -102,18 +109,23 @@ binders-less (Holds c ∷ ps) (suc i) = binders-less ps i
 pub rest-few : (ps : List PathFact) (i : ℕ) → binders (drop i ps) ≤ length ps
 rest-few ps i = omega (arith, binders-less ps i, binders-few ps)
 
-pub cmps-fit : (by : ℕ) (cs : List Cmp) (i : ℕ) (c : Cmp) → i < length cs → c ≡ get_or cs i c → cmps_fit by (drop i cs) ≡ true → (numbers_fit 0 by (cmp_form c) ≡ true) × (cmps_fit by (drop (i + 1) cs) ≡ true)
+pub cmps-fit : (by : ℕ) (cs : List Cmp) (i : ℕ) (c : Cmp) → i < length cs → c ≡ get_or cs i c → cmps_fit by (drop i cs) ≡ true
+    → (numbers_fit 0 by (cmp_form c) ≡ true) × (cmps_fit by (drop (i + 1) cs) ≡ true)
 cmps-fit by cs i c h e f = and_parts (numbers_fit 0 by (cmp_form c)) (cmps_fit by (drop (i + 1) cs)) (ap (cmps_fit by) (sym (drop-item cs i c h e)) ∙ f)
 
-pub moved-next : (by : ℕ) (cs : List Cmp) (i : ℕ) (c : Cmp) (l m : List Fact) → i < length cs → c ≡ get_or cs i c → m ≡ l ++ stated_if (is_normal (cmp_form (moved_cmp by c))) (moved_cmp by c)
+pub moved-next : (by : ℕ) (cs : List Cmp) (i : ℕ) (c : Cmp) (l m : List Fact) → i < length cs → c ≡ get_or cs i c
+    → m ≡ l ++ stated_if (is_normal (cmp_form (moved_cmp by c))) (moved_cmp by c)
     → m ++ moved_facts by (drop (i + 1) cs) ≡ l ++ moved_facts by (drop i cs)
 moved-next by = append-next (moved_facts by) (λ c. stated_if (is_normal (cmp_form (moved_cmp by c))) (moved_cmp by c)) (λ x xs. refl)
 
-pub stated-next : (cs : List Cmp) (i : ℕ) (c : Cmp) (l m : List Fact) → i < length cs → c ≡ get_or cs i c → m ≡ l ++ stated_if (is_normal (cmp_form c)) c → m ++ stated_facts (drop (i + 1) cs) ≡ l ++ stated_facts (drop i cs)
+pub stated-next : (cs : List Cmp) (i : ℕ) (c : Cmp) (l m : List Fact) → i < length cs → c ≡ get_or cs i c → m ≡ l ++ stated_if (is_normal (cmp_form c)) c
+    → m ++ stated_facts (drop (i + 1) cs) ≡ l ++ stated_facts (drop i cs)
 stated-next = append-next stated_facts (λ c. stated_if (is_normal (cmp_form c)) c) (λ x xs. refl)
 
-pub size-next : (bs : List SizeBounds) (i : ℕ) (d : SizeBounds) (x y : Option Items) (l m n : List Fact) → i < length bs → x ≡ where_normal (above_low i (get_or bs i d).low) → y ≡ where_normal (below_high i (get_or bs i d).high)
-    → m ≡ l ++ fact_if (BoundOf Lower (Size i)) x → n ≡ m ++ fact_if (BoundOf Upper (Size i)) y → n ++ size_facts (i + 1) (drop (i + 1) bs) ≡ l ++ size_facts i (drop i bs)
+pub size-next : (bs : List SizeBounds) (i : ℕ) (d : SizeBounds) (x y : Option Items) (l m n : List Fact) → i < length bs
+    → x ≡ where_normal (above_low i (get_or bs i d).low) → y ≡ where_normal (below_high i (get_or bs i d).high)
+    → m ≡ l ++ fact_if (BoundOf Lower (Size i)) x → n ≡ m ++ fact_if (BoundOf Upper (Size i)) y
+        → n ++ size_facts (i + 1) (drop (i + 1) bs) ≡ l ++ size_facts i (drop i bs)
 size-next bs i d x y l m n h ex ey em en =
     let b = get_or bs i d in
     let low = fact_if (BoundOf Lower (Size i)) (where_normal (above_low i b.low)) in
@@ -126,4 +138,5 @@ size-next bs i d x y l m n h ex ey em en =
     turn : (i : ℕ) → i + 1 ≡ suc i
     turn i = omega arith
 
-pub ruleset declared_laws = (stated-kept, size-next, moved-next, stated-next, moved-none, moved-Ge, moved-Eq, size-once, size-less, var-next, var-once, var-kept, path-Bound, binders-few)
+pub ruleset declared_laws = (stated-kept, size-next, moved-next, stated-next, moved-none, moved-Ge, moved-Eq, size-once, size-less, var-next, var-once,
+    var-kept, path-Bound, binders-few)

@@ -1,5 +1,6 @@
 -- Where the declared facts hold, every fact of the list holds.
-use Rattle.std.proofs.Common.{◌≡◌, ℕ, zero, suc, ◌+◌, ◌-◌, ◌<◌, List, [], ◌∷◌, ◌++◌, refl, ap, sym, subst, Bool, true, false, ◌&&◌, eqb, Option, Some, None, arith}
+use Rattle.std.proofs.Common.{◌≡◌, ℕ, zero, suc, ◌+◌, ◌-◌, ◌<◌, List, [], ◌∷◌, ◌++◌, refl, ap, sym, subst, Bool, true, false, ◌&&◌, eqb, Option, Some, None}
+use Rattle.std.proofs.Common.{arith}
 use Rattle.std.specs.Prelude.{ℤ, pos, negsuc, ◌+ℤ◌, ◌*ℤ◌, ◌≤ℤ◌, slice_get, if◌then◌else◌}
 use Rattle.std.specs.Int.{int_div_euclid}
 use Rattle.std.proofs.lemmas.Int.{ints}
@@ -25,7 +26,11 @@ use Rattle.fact_list.proofs.AddLaws.{without-each}
 use Rattle.affine_index.proofs.ArithmeticLaws.{normal-ordered}
 use Rattle.fact_list.proofs.PartsOrdered.{parts-ordered}
 use Rattle.fact_list.proofs.NotNegative.{atom-not_negative, times-not_negative}
-use Rattle.fact_list.specs.Facts.{above_low, above_quotient, all_factor_facts, atom_facts, below_extent, below_high, below_next_quotient, binders, declared_facts, extent_at, fact_if, factor_facts, facts_of, followed, is_normal_fact, where_normal, normal_product, layer_facts, layer_limits, limit_facts, limit_if, limit_products, limit_products_if, limits_of, meet, meet_all, moved_cmp, moved_facts, path_facts, product_of_others, quotient_limits, single, size_facts, size_limits, stated_facts, stated_if, times_others, var_limits}
+use Rattle.fact_list.specs.Facts.{above_low, above_quotient, all_factor_facts, atom_facts, below_extent, below_high, below_next_quotient, binders}
+use Rattle.fact_list.specs.Facts.{declared_facts, extent_at, fact_if, factor_facts, facts_of, followed, is_normal_fact, where_normal, normal_product}
+use Rattle.fact_list.specs.Facts.{layer_facts, layer_limits, limit_facts, limit_if, limit_products, limit_products_if, limits_of, meet, meet_all, moved_cmp}
+use Rattle.fact_list.specs.Facts.{moved_facts, path_facts, product_of_others, quotient_limits, single, size_facts, size_limits, stated_facts, stated_if}
+use Rattle.fact_list.specs.Facts.{times_others, var_limits}
 use Rattle.fact_list.specs.Atoms.{different, stands_in, without}
 use Rattle.fact_list.specs.Truth.{AllTrue, FactTrue, ListedFactsHold}
 use Rattle.fact_list.specs.Within.{form_parts}
@@ -133,7 +138,8 @@ module _ (s r : List ℕ) where
       let x = fact_if (BoundOf Lower (Size k)) (where_normal (above_low k b.low)) in
       let y = fact_if (BoundOf Upper (Size k)) (where_normal (below_high k b.high)) in
       good-append x (y ++ size_facts (suc k) bs) (fact-good _ (above_low k b.low) (true-left x _ h))
-      (good-append y (size_facts (suc k) bs) (fact-good _ (below_high k b.high) (true-left y (size_facts (suc k) bs) (true-right x _ h))) (sizes-good (suc k) bs (true-right y (size_facts (suc k) bs) (true-right x _ h))))
+      (good-append y (size_facts (suc k) bs) (fact-good _ (below_high k b.high) (true-left y (size_facts (suc k) bs) (true-right x _ h)))
+          (sizes-good (suc k) bs (true-right y (size_facts (suc k) bs) (true-right x _ h))))
 
   assumes-good : (cs : List Cmp) → AllTrue s r (stated_facts cs) → AllGood (stated_facts cs)
   assumes-good [] h = tt
@@ -155,7 +161,8 @@ module _ (s r : List ℕ) where
       let x = fact_if (BoundOf Lower (Var v)) (where_normal (var_form v)) in
       let y = fact_if (BoundOf Upper (Var v)) (where_normal (below_extent v n)) in
       good-append x (y ++ path_facts ps) (fact-good _ (var_form v) (true-left x _ h))
-      (good-append y (path_facts ps) (fact-good _ (below_extent v n) (true-left y (path_facts ps) (true-right x _ h))) (path-good ps (true-right y (path_facts ps) (true-right x _ h))))
+      (good-append y (path_facts ps) (fact-good _ (below_extent v n) (true-left y (path_facts ps) (true-right x _ h)))
+          (path-good ps (true-right y (path_facts ps) (true-right x _ h))))
   path-good (Holds c ∷ ps) h =
       let x = moved_facts (binders ps) c.all in
       good-append x (path_facts ps) (moved-good (binders ps) c.all (true-left x (path_facts ps) h)) (path-good ps (true-right x (path_facts ps) h))
@@ -167,20 +174,23 @@ module _ (s r : List ℕ) where
       let x = fact_if (BoundOf Lower (Size k)) (where_normal (above_low k b.low)) in
       let y = fact_if (BoundOf Upper (Size k)) (where_normal (below_high k b.high)) in
       subst (λ (z : ℕ). AllLimits (size_limits z (Some b))) same
-      (limits-append (limit_if Lower (where_normal (above_low k b.low))) (limit_if Upper (where_normal (below_high k b.high))) (fact-limit Lower _ (above_low k b.low) (true-left x _ h))
+      (limits-append (limit_if Lower (where_normal (above_low k b.low))) (limit_if Upper (where_normal (below_high k b.high)))
+          (fact-limit Lower _ (above_low k b.low) (true-left x _ h))
       (fact-limit Upper _ (below_high k b.high) (true-left y (size_facts (suc k) bs) (true-right x _ h))))
   size-limits (b ∷ bs) k (suc n) m e h =
       let x = fact_if (BoundOf Lower (Size k)) (where_normal (above_low k b.low)) in
       let y = fact_if (BoundOf Upper (Size k)) (where_normal (below_high k b.high)) in
       size-limits bs (suc k) n m (omega arith) (true-right y (size_facts (suc k) bs) (true-right x _ h))
 
-  one_extent : (n : Items) (ps : List PathFact) (v : ℕ) (b : Bool) → eqb v (binders ps) ≡ b → AllTrue s r (path_facts (Bound n ∷ ps)) → AllLimits (var_limits v (extent_at ps v))
+  one_extent : (n : Items) (ps : List PathFact) (v : ℕ) (b : Bool) → eqb v (binders ps) ≡ b → AllTrue s r (path_facts (Bound n ∷ ps))
+      → AllLimits (var_limits v (extent_at ps v))
       → AllLimits (var_limits v (if b then Some n else extent_at ps v))
   one_extent n ps v true e h rest =
       let w = binders ps in
       let x = fact_if (BoundOf Lower (Var w)) (where_normal (var_form w)) in
       let y = fact_if (BoundOf Upper (Var w)) (where_normal (below_extent w n)) in
-      subst (λ (z : ℕ). AllLimits (var_limits z (Some n))) (sym (same_number v w e)) (fact-limit Upper _ (below_extent w n) (true-left y (path_facts ps) (true-right x _ h)))
+      subst (λ (z : ℕ). AllLimits (var_limits z (Some n))) (sym (same_number v w e))
+          (fact-limit Upper _ (below_extent w n) (true-left y (path_facts ps) (true-right x _ h)))
   one_extent n ps v false e h rest = rest
 
   var-limits : (ps : List PathFact) (v : ℕ) → AllTrue s r (path_facts ps) → AllLimits (var_limits v (extent_at ps v))
@@ -241,13 +251,16 @@ module _ (s r : List ℕ) where
     sizes-part = true-left (size_facts 0 f.sizes) (stated_facts f.assumes ++ path_facts f.path) declared
 
     path-part : AllTrue s r (path_facts f.path)
-    path-part = true-right (stated_facts f.assumes) (path_facts f.path) (true-right (size_facts 0 f.sizes) (stated_facts f.assumes ++ path_facts f.path) declared)
+    path-part = true-right (stated_facts f.assumes) (path_facts f.path)
+        (true-right (size_facts 0 f.sizes) (stated_facts f.assumes ++ path_facts f.path) declared)
 
     declared-good : AllGood (declared_facts f)
     declared-good =
         let rest = stated_facts f.assumes ++ path_facts f.path in
         good-append (size_facts 0 f.sizes) rest (sizes-good 0 f.sizes sizes-part)
-        (good-append (stated_facts f.assumes) (path_facts f.path) (assumes-good f.assumes (true-left (stated_facts f.assumes) (path_facts f.path) (true-right (size_facts 0 f.sizes) rest declared))) (path-good f.path path-part))
+        (good-append (stated_facts f.assumes) (path_facts f.path)
+            (assumes-good f.assumes (true-left (stated_facts f.assumes) (path_facts f.path) (true-right (size_facts 0 f.sizes) rest declared)))
+            (path-good f.path path-part))
 
     layer-limits : (y : Atom-F Atom Items) → AllLimits (layer_limits f y)
     layer-limits (Atom-F.Size k) = size-limits f.sizes 0 k k (omega arith) sizes-part
@@ -260,11 +273,14 @@ module _ (s r : List ℕ) where
       where
         by : (z : Bool) → AllGood (fact_if role (if z then None else where_normal (product_of a b)))
         by true = tt
-        by false = value-good role (product_of a b) (subst (λ (z : ℤ). pos 0 ≤ℤ z) (sym (value-product s r a b)) (times-not_negative (items_value s r a) (items_value s r b) h g))
+        by false = value-good role (product_of a b)
+            (subst (λ (z : ℤ). pos 0 ≤ℤ z) (sym (value-product s r a b)) (times-not_negative (items_value s r a) (items_value s r b) h g))
 
     products-good : (m a : Atom) (g : Items) (ls : List Limit) → AllLimits ls → pos 0 ≤ℤ items_value s r g → AllGood (limit_products m a g ls)
     products-good m a g [] h p = tt
-    products-good m a g (l ∷ ls) h p = good-append (fact_if (FactorOf l.side a m) (normal_product l.form g)) (limit_products m a g ls) (product-good (FactorOf l.side a m) l.form g h.0.1 p) (products-good m a g ls h.1 p)
+    products-good m a g (l ∷ ls) h p =
+        good-append (fact_if (FactorOf l.side a m) (normal_product l.form g)) (limit_products m a g ls) (product-good (FactorOf l.side a m) l.form g h.0.1 p)
+        (products-good m a g ls h.1 p)
 
     products_if-good : (m a : Atom) (o : Option Items) (ls : List Limit) → AllLimits ls → SomeNotNegative o → AllGood (limit_products_if m a o ls)
     products_if-good m a None ls h p = tt
@@ -274,7 +290,8 @@ module _ (s r : List ℕ) where
     factors-good fs [] o = tt
     factors-good fs (a ∷ as') o =
         good-append (factor_facts f fs a) (all_factor_facts f fs as')
-        (products_if-good (Mul fs) a (product_of_others (without a fs)) (limits_of f a) (layer-limits (out-Atom a)) (others-some (without a fs) (without-each Ordered a fs o))) (factors-good fs as' o)
+        (products_if-good (Mul fs) a (product_of_others (without a fs)) (limits_of f a) (layer-limits (out-Atom a))
+            (others-some (without a fs) (without-each Ordered a fs o))) (factors-good fs as' o)
 
     quotient-good : (d : Atom) (ls : List Limit) → AllLimits ls → AllGood (limit_facts d ls)
     quotient-good d [] h = tt
@@ -285,10 +302,13 @@ module _ (s r : List ℕ) where
     atom-good = by_kind (λ a. Ordered a → AllGood (layer_facts f (out-Atom a)))
         (λ k o. subst (λ (y : Atom-F Atom Items). AllGood (layer_facts f y)) (sym (out-Size k)) tt)
         (λ v o. subst (λ (y : Atom-F Atom Items). AllGood (layer_facts f y)) (sym (out-Var v)) tt)
-        (λ i k o. subst (λ (y : Atom-F Atom Items). AllGood (layer_facts f y)) (sym (out-Div i k)) (quotient-good (Div i k) (quotient_limits i k) (quotient-limits i k)))
+        (λ i k o. subst (λ (y : Atom-F Atom Items). AllGood (layer_facts f y)) (sym (out-Div i k))
+            (quotient-good (Div i k) (quotient_limits i k) (quotient-limits i k)))
         (λ fs o. subst (λ (y : Atom-F Atom Items). AllGood (layer_facts f y)) (sym (out-Mul fs))
         (good-append (fact_if (ProductOf (Mul fs)) (where_normal (of_atom (Mul fs)))) (all_factor_facts f fs (different fs))
-        (value-good (ProductOf (Mul fs)) (of_atom (Mul fs)) (subst (λ (z : ℤ). pos 0 ≤ℤ z) (sym (value-of_atom s r (Mul fs))) (atom-not_negative s r (Mul fs) o))) (factors-good fs (different fs) (mul_parts fs o).good.ordered)))
+        (value-good (ProductOf (Mul fs)) (of_atom (Mul fs))
+            (subst (λ (z : ℤ). pos 0 ≤ℤ z) (sym (value-of_atom s r (Mul fs))) (atom-not_negative s r (Mul fs) o)))
+            (factors-good fs (different fs) (mul_parts fs o).good.ordered)))
 
     meet-good : (m : Met) (a : Atom) → Ordered a → AllGood m.facts → AllGood (meet f m a).facts
     meet-good m a o h = by (stands_in a m.atoms)
@@ -309,7 +329,8 @@ module _ (s r : List ℕ) where
         let start : Met = record { atoms = atoms; facts = [] } in (
           h.0,
           followed-good n (meet_all f start (form_parts form)).atoms (queue ++ (meet_all f start (form_parts form)).facts)
-              (good-append queue (meet_all f start (form_parts form)).facts h.1 (meet_all-good (form_parts form) start (parts-ordered form (normal-ordered form h.0.0)) tt)),
+              (good-append queue (meet_all f start (form_parts form)).facts h.1
+                  (meet_all-good (form_parts form) start (parts-ordered form (normal-ordered form h.0.0)) tt)),
         )
 
     -- every fact of the list of a goal in normal form holds, and is in normal form

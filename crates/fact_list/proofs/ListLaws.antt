@@ -1,5 +1,6 @@
 -- What the list of facts rests on.
-use Rattle.std.proofs.Common.{◌≡◌, ℕ, zero, suc, ◌+◌, ◌-◌, ◌<◌, ◌≤◌, ◌⊎◌, inl, inr, List, [], ◌∷◌, ◌++◌, length, drop, take, get_or, append_assoc, refl, ap, sym, ◌∙◌, arith, length-append}
+use Rattle.std.proofs.Common.{◌≡◌, ℕ, zero, suc, ◌+◌, ◌-◌, ◌<◌, ◌≤◌, ◌⊎◌, inl, inr, List, [], ◌∷◌, ◌++◌, length, drop, take, get_or, append_assoc, refl, ap}
+use Rattle.std.proofs.Common.{sym, ◌∙◌, arith, length-append}
 use Rattle.std.proofs.Math.Seq.{take-add}
 use Rattle.std.proofs.lemmas.List.{length-drop}
 use Rattle.affine_index.specs.Condition.{cmp_form}
@@ -47,7 +48,8 @@ followed-next f list added i x atoms more h l e ea ef =
     let m = meet_form f atoms (cmp_form x.cmp) in
     let n = 2000 - (i + 1) in
     let rest = followed n f m.atoms (drop (i + 1) list ++ m.facts) in
-    (λ k. (take_less (i + 1) list added (omega arith) ∙ take-item list i x h e) k ++ followed n f (ea k) ((drop_less (i + 1) list added (omega arith) ∙ ap (λ zs. drop (i + 1) list ++ zs) ef) k))
+    (λ k. (take_less (i + 1) list added (omega arith) ∙ take-item list i x h e) k
+        ++ followed n f (ea k) ((drop_less (i + 1) list added (omega arith) ∙ ap (λ zs. drop (i + 1) list ++ zs) ef) k))
     ∙ append_assoc (take i list) (x ∷ []) rest
     ∙ ap (λ zs. take i list ++ zs) (sym ((λ k. followed (left i l k) f atoms (drop-item list i x h e k))))
   where
@@ -58,21 +60,25 @@ followed-next f list added i x atoms more h l e ea ef =
 pub followed-end : (f : Facts) (list : List Fact) (i : ℕ) (atoms : List Atom) → i ≤ length list → i ≤ 2000 → (length list ≤ i) ⊎ (2000 ≤ length list)
     → take i list ++ followed (2000 - i) f atoms (drop i list) ≡ take 2000 list
 followed-end f list i atoms h l (inl none) =
-    (λ k. take-all i list none k ++ (ap (followed (2000 - i) f atoms) (drop-all i list none) ∙ followed_none f (2000 - i) atoms) k) ∙ append-none list ∙ sym (take-all 2000 list (omega arith))
+    (λ k. take-all i list none k ++ (ap (followed (2000 - i) f atoms) (drop-all i list none) ∙ followed_none f (2000 - i) atoms) k) ∙ append-none list
+        ∙ sym (take-all 2000 list (omega arith))
 followed-end f list i atoms h l (inr many) =
-    ap (λ zs. take i list ++ zs) (followed_long f (2000 - i) atoms (drop i list) (omega (arith, length-drop i list))) ∙ sym (take-add i (2000 - i) list) ∙ ap (λ n. take n list) (whole i l)
+    ap (λ zs. take i list ++ zs) (followed_long f (2000 - i) atoms (drop i list) (omega (arith, length-drop i list))) ∙ sym (take-add i (2000 - i) list)
+        ∙ ap (λ n. take n list) (whole i l)
   where
     whole : (i : ℕ) → i ≤ 2000 → i + (2000 - i) ≡ 2000
     whole i l = omega arith
 
 -- what the queue begins with
-pub followed-start : (f : Facts) (goal : Items) (m : Met) (none : List Atom) (list more : List Fact) → m ≡ meet_form f none goal → none ≡ [] → list ≡ declared_facts f → more ≡ list ++ m.facts → followed 2000 f m.atoms more ≡ facts_of f goal
+pub followed-start : (f : Facts) (goal : Items) (m : Met) (none : List Atom) (list more : List Fact) → m ≡ meet_form f none goal → none ≡ []
+    → list ≡ declared_facts f → more ≡ list ++ m.facts → followed 2000 f m.atoms more ≡ facts_of f goal
 followed-start f goal m none list more e n d a =
     let met = e ∙ ap (λ as'. meet_form f as' goal) n in
     λ k. followed 2000 f (met k).atoms ((a ∙ (λ j. d j ++ (met j).facts)) k)
 
 -- the comparison of one fact more
-pub comparison-next : (facts : List Fact) (i : ℕ) (x : Fact) (l m : List Cmp) → i < length facts → x ≡ get_or facts i x → m ≡ l ++ x.cmp ∷ [] → m ++ comparisons (drop (i + 1) facts) ≡ l ++ comparisons (drop i facts)
+pub comparison-next : (facts : List Fact) (i : ℕ) (x : Fact) (l m : List Cmp) → i < length facts → x ≡ get_or facts i x → m ≡ l ++ x.cmp ∷ []
+    → m ++ comparisons (drop (i + 1) facts) ≡ l ++ comparisons (drop i facts)
 comparison-next = append-next comparisons (λ x. x.cmp ∷ []) (λ x xs. refl)
 
 pub ruleset list_laws = (take-few, comparison-next)

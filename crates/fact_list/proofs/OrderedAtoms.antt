@@ -1,5 +1,6 @@
 -- Atoms in order, and where one stands among them.
-use Rattle.std.proofs.Common.{◌≡◌, ℕ, zero, suc, ◌+◌, ◌-◌, ◌<◌, List, [], ◌∷◌, ◌++◌, length, drop, take, get_or, refl, ap, sym, ◌∙◌, subst, Bool, true, false, ◌||◌, arith}
+use Rattle.std.proofs.Common.{◌≡◌, ℕ, zero, suc, ◌+◌, ◌-◌, ◌<◌, List, [], ◌∷◌, ◌++◌, length, drop, take, get_or, refl, ap, sym, ◌∙◌, subst, Bool, true, false}
+use Rattle.std.proofs.Common.{◌||◌, arith}
 use Rattle.std.specs.List.{insert}
 use Rattle.std.specs.Ordering.{is_eq, is_le, is_lt, ordering_reverse}
 use Rattle.std.specs.declared.cmp.Ordering.{Ordering}
@@ -84,7 +85,8 @@ each-at_most x y [] m h = tt
 each-at_most x y (z ∷ ys) m h = (at_most-both x y z m h.0, each-at_most x y ys m h.1)
 
 -- what a comparison with one atom of a list in order tells of those before it, and of it and those after it
-pub before-more : (a : Atom) (xs : List Atom) (n : ℕ) (x : Atom) → n < length xs → x ≡ get_or xs n x → SortedFactors xs → is_lt (atom_order x a) ≡ true → Each (less_than a) (take (n + 1) xs)
+pub before-more : (a : Atom) (xs : List Atom) (n : ℕ) (x : Atom) → n < length xs → x ≡ get_or xs n x → SortedFactors xs → is_lt (atom_order x a) ≡ true
+    → Each (less_than a) (take (n + 1) xs)
 before-more a xs n x h e s l = subst (λ (m : ℕ). Each (less_than a) (take m xs)) (turn n) (by xs n h e s)
   where
     turn : (n : ℕ) → suc n ≡ n + 1
@@ -100,7 +102,8 @@ before-more a xs n x h e s l = subst (λ (m : ℕ). Each (less_than a) (take m x
     by (y ∷ ys) zero h e s = (subst (λ (z : Atom). atom_order z a ≡ Less) e (before-is x a l), tt)
     by (y ∷ ys) (suc n) h e s = (at_most-less y x a (at y ys n (omega arith) e s.0) (before-is x a l), by ys n (omega arith) e s.1)
 
-pub after-more : (a : Atom) (xs : List Atom) (n : ℕ) (x : Atom) → n < length xs → x ≡ get_or xs n x → SortedFactors xs → is_lt (atom_order x a) ≡ false → Each (AtMost a) (drop n xs)
+pub after-more : (a : Atom) (xs : List Atom) (n : ℕ) (x : Atom) → n < length xs → x ≡ get_or xs n x → SortedFactors xs → is_lt (atom_order x a) ≡ false
+    → Each (AtMost a) (drop n xs)
 after-more a xs n x h e s l =
     let m = not-before x a l in
     subst (Each (AtMost a)) (sym (drop-item xs n x h e)) (m, each-at_most a x (drop (n + 1) xs) m (sorted-from xs n x h e s).0)
@@ -120,7 +123,8 @@ each-put P a xs zero p h = (p, h)
 each-put P a [] (suc n) p h = (p, tt)
 each-put P a (x ∷ xs) (suc n) p h = (h.0, each-put P a xs n p h.1)
 
-pub sorted-put : (a : Atom) (xs : List Atom) (n : ℕ) → SortedFactors xs → Each (less_than a) (take n xs) → Each (AtMost a) (drop n xs) → SortedFactors (take n xs ++ a ∷ drop n xs)
+pub sorted-put : (a : Atom) (xs : List Atom) (n : ℕ) → SortedFactors xs → Each (less_than a) (take n xs) → Each (AtMost a) (drop n xs)
+    → SortedFactors (take n xs ++ a ∷ drop n xs)
 sorted-put a xs zero s b c = (c, s)
 sorted-put a [] (suc n) s b c = (tt, tt)
 sorted-put a (x ∷ xs) (suc n) s b c = (each-put (AtMost x) a xs n (ap is_le b.0) s.0, sorted-put a xs n s.1 b.1 c)
@@ -146,12 +150,15 @@ known-more met sorted a n k p = record {
   same = λ b. stands-put b a sorted n ∙ ap (λ c. same_atoms b a || c) (k.same b) ∙ sym (stands-more b a met);
 }
 
-pub known-with : (met list more put : List Atom) (a x y : Atom) (n : ℕ) → Known met list → Splits a list n → more ≡ met ++ x ∷ [] → x ≡ a → put ≡ insert list n y → y ≡ a → Known more put
+pub known-with : (met list more put : List Atom) (a x y : Atom) (n : ℕ) → Known met list → Splits a list n → more ≡ met ++ x ∷ [] → x ≡ a
+    → put ≡ insert list n y → y ≡ a → Known more put
 known-with met list more put a x y n k p m e q f =
-    subst (λ (xs : List Atom). Known xs put) (sym (m ∙ ap (λ (z : Atom). met ++ z ∷ []) e)) (subst (λ (xs : List Atom). Known (met ++ a ∷ []) xs) (sym (q ∙ ap (insert list n) f)) (known-more met list a n k p))
+    subst (λ (xs : List Atom). Known xs put) (sym (m ∙ ap (λ (z : Atom). met ++ z ∷ []) e))
+        (subst (λ (xs : List Atom). Known (met ++ a ∷ []) xs) (sym (q ∙ ap (insert list n) f)) (known-more met list a n k p))
 
 -- an atom before a list in order stands in it where it is the first
-pub first-same : (a : Atom) (xs : List Atom) (x : Atom) (r : Bool) → (length xs ≡ 0 → ⊥) → x ≡ get_or xs 0 x → SortedFactors (a ∷ xs) → r ≡ same_atoms a x → r ≡ stands_in a xs
+pub first-same : (a : Atom) (xs : List Atom) (x : Atom) (r : Bool) → (length xs ≡ 0 → ⊥) → x ≡ get_or xs 0 x → SortedFactors (a ∷ xs) → r ≡ same_atoms a x
+    → r ≡ stands_in a xs
 first-same a [] x r n e s h = absurd (n refl)
 first-same a (y ∷ ys) x r n e s h = h ∙ ap (same_atoms a) e ∙ first-stands a y ys s
 
@@ -160,9 +167,11 @@ none-stands a [] h = refl
 none-stands a (y ∷ ys) h = absurd (omega arith)
 
 -- an atom and those after it, as a slice
-pub sorted-slice : (xs : List Atom) (n : ℕ) (x : Atom) → n < length xs → x ≡ get_or xs n x → SortedFactors xs → SortedFactors (x ∷ take (length xs - (n + 1)) (drop (n + 1) xs))
+pub sorted-slice : (xs : List Atom) (n : ℕ) (x : Atom) → n < length xs → x ≡ get_or xs n x → SortedFactors xs
+    → SortedFactors (x ∷ take (length xs - (n + 1)) (drop (n + 1) xs))
 sorted-slice xs n x h e s =
-    subst (λ (ys : List Atom). SortedFactors (x ∷ ys)) (sym (take-all (length xs - (n + 1)) (drop (n + 1) xs) (omega (arith, length-drop (n + 1) xs)))) (sorted-from xs n x h e s)
+    subst (λ (ys : List Atom). SortedFactors (x ∷ ys)) (sym (take-all (length xs - (n + 1)) (drop (n + 1) xs) (omega (arith, length-drop (n + 1) xs))))
+        (sorted-from xs n x h e s)
 
 -- an atom and those that it does not come after, as a slice
 pub slice-sorted : (a : Atom) (xs : List Atom) (n : ℕ) → SortedFactors xs → Each (AtMost a) (drop n xs) → SortedFactors (a ∷ take (length xs - n) (drop n xs))

@@ -18,7 +18,8 @@ use Rattle.affine_index.specs.declared.form.Atom.TheVariants.{Size, Var}
 use Rattle.affine_index.specs.declared.form.Items.{Items}
 use Rattle.affine_index.proofs.ArithmeticLaws.{normal-ordered}
 use Rattle.fact_list.proofs.FactsTrue.{at_least_zero-from}
-use Rattle.fact_list.specs.Facts.{above_low, below_extent, below_high, binders, declared_facts, fact_if, where_normal, moved_cmp, moved_facts, path_facts, single, size_facts, stated_facts, stated_if}
+use Rattle.fact_list.specs.Facts.{above_low, below_extent, below_high, binders, declared_facts, fact_if, where_normal, moved_cmp, moved_facts, path_facts}
+use Rattle.fact_list.specs.Facts.{single, size_facts, stated_facts, stated_if}
 use Rattle.fact_list.specs.Normal.{CmpsNormal, PathNormal}
 use Rattle.fact_list.specs.Truth.{AllTrue, DeclaredFactsHold, FactsHold, PathHolds, SizesWithin}
 use Rattle.fact_list.specs.declared.facts.Facts.{Facts}
@@ -57,7 +58,8 @@ module _ (s r : List ℕ) where
   sizes-true k [] h = tt
   sizes-true k (b ∷ bs) h =
       true-append (fact_if _ (where_normal (above_low k b.low))) _ (kept-true _ (above_low k b.low) (low-value k b.low h.0))
-      (true-append (fact_if _ (where_normal (below_high k b.high))) (size_facts (suc k) bs) (kept-true _ (below_high k b.high) (high-value k b.high h.1)) (sizes-true (suc k) bs h.2))
+      (true-append (fact_if _ (where_normal (below_high k b.high))) (size_facts (suc k) bs) (kept-true _ (below_high k b.high) (high-value k b.high h.1))
+          (sizes-true (suc k) bs h.2))
 
   assumes-true : (cs : List Cmp) → all_hold s r cs ≡ true → AllTrue s r (stated_facts cs)
   assumes-true [] h = tt
@@ -79,7 +81,8 @@ module _ (s r : List ℕ) where
   moved-true by [] n h = tt
   moved-true by (c ∷ cs) n h =
       let a = and_parts (cmp_holds s (drop by r) c) (all_hold s (drop by r) cs) h in
-      true-append (stated_if (is_normal (cmp_form (moved_cmp by c))) (moved_cmp by c)) (moved_facts by cs) (stated-true (is_normal (cmp_form (moved_cmp by c))) (moved_cmp by c) (moved-holds by c n.0 a.0)) (moved-true by cs n.1 a.1)
+      true-append (stated_if (is_normal (cmp_form (moved_cmp by c))) (moved_cmp by c)) (moved_facts by cs)
+          (stated-true (is_normal (cmp_form (moved_cmp by c))) (moved_cmp by c) (moved-holds by c n.0 a.0)) (moved-true by cs n.1 a.1)
 
   var-value : (v : ℕ) → pos 0 ≤ℤ items_value s r (var_form v)
   var-value v = let a = value-of_atom s r (Var v) in let b = value-Var s r v in omega (arith, ints)

@@ -67,24 +67,29 @@ each_term-next P ts i h e = subst (λ (n : ℕ). EachTerm P (drop n ts)) (turn i
     by (t ∷ ts) zero h e = e.1
     by (t ∷ ts) (suc i) h e = by ts i (omega arith) e
 
-atoms_next : (f : Facts) (m : Met) (fs : List Atom) (i : ℕ) (x : Atom) → i < length fs → x ≡ get_or fs i x → meet_all f (meet_all f m (atom_parts x)) (list_parts (drop (suc i) fs)) ≡ meet_all f m (list_parts (drop i fs))
+atoms_next : (f : Facts) (m : Met) (fs : List Atom) (i : ℕ) (x : Atom) → i < length fs → x ≡ get_or fs i x
+    → meet_all f (meet_all f m (atom_parts x)) (list_parts (drop (suc i) fs)) ≡ meet_all f m (list_parts (drop i fs))
 atoms_next f m [] i x h e = absurd (omega arith)
 atoms_next f m (g ∷ fs) zero x h e = meet-append f m (atom_parts x) (list_parts fs) ∙ ap (λ a. meet_all f m (atom_parts a ++ list_parts fs)) e
 atoms_next f m (g ∷ fs) (suc i) x h e = atoms_next f m fs i x (omega arith) e
 
 -- the atoms of one more of a list
-pub atoms-next : (f : Facts) (m n : Met) (fs : List Atom) (i : ℕ) (x : Atom) → i < length fs → x ≡ get_or fs i x → n ≡ meet_all f m (atom_parts x) → meet_all f n (list_parts (drop (i + 1) fs)) ≡ meet_all f m (list_parts (drop i fs))
+pub atoms-next : (f : Facts) (m n : Met) (fs : List Atom) (i : ℕ) (x : Atom) → i < length fs → x ≡ get_or fs i x → n ≡ meet_all f m (atom_parts x)
+    → meet_all f n (list_parts (drop (i + 1) fs)) ≡ meet_all f m (list_parts (drop i fs))
 atoms-next f m n fs i x h e g = (λ k. meet_all f (g k) (list_parts (drop (turn i k) fs))) ∙ atoms_next f m fs i x h e
   where
     turn : (i : ℕ) → i + 1 ≡ suc i
     turn i = omega arith
 
-terms_next : (f : Facts) (m : Met) (ts : List (Item Atom)) (i : ℕ) (x : Item Atom) → i < length ts → x ≡ get_or ts i x → meet_all f (meet_all f m (atom_parts x.atom)) (terms_parts (drop (suc i) ts)) ≡ meet_all f m (terms_parts (drop i ts))
+terms_next : (f : Facts) (m : Met) (ts : List (Item Atom)) (i : ℕ) (x : Item Atom) → i < length ts → x ≡ get_or ts i x
+    → meet_all f (meet_all f m (atom_parts x.atom)) (terms_parts (drop (suc i) ts)) ≡ meet_all f m (terms_parts (drop i ts))
 terms_next f m [] i x h e = absurd (omega arith)
-terms_next f m (t ∷ ts) zero x h e = meet-append f m (atom_parts x.atom) (terms_parts ts) ∙ ap (λ (y : Item Atom). meet_all f m (atom_parts y.atom ++ terms_parts ts)) e
+terms_next f m (t ∷ ts) zero x h e = meet-append f m (atom_parts x.atom) (terms_parts ts)
+    ∙ ap (λ (y : Item Atom). meet_all f m (atom_parts y.atom ++ terms_parts ts)) e
 terms_next f m (t ∷ ts) (suc i) x h e = terms_next f m ts i x (omega arith) e
 
-pub terms-next : (f : Facts) (m n : Met) (ts : List (Item Atom)) (i : ℕ) (x : Item Atom) → i < length ts → x ≡ get_or ts i x → n ≡ meet_all f m (atom_parts x.atom) → meet_all f n (terms_parts (drop (i + 1) ts)) ≡ meet_all f m (terms_parts (drop i ts))
+pub terms-next : (f : Facts) (m n : Met) (ts : List (Item Atom)) (i : ℕ) (x : Item Atom) → i < length ts → x ≡ get_or ts i x
+    → n ≡ meet_all f m (atom_parts x.atom) → meet_all f n (terms_parts (drop (i + 1) ts)) ≡ meet_all f m (terms_parts (drop i ts))
 terms-next f m n ts i x h e g = (λ k. meet_all f (g k) (terms_parts (drop (turn i k) ts))) ∙ terms_next f m ts i x h e
   where
     turn : (i : ℕ) → i + 1 ≡ suc i

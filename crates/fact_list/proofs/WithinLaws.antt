@@ -1,7 +1,8 @@
 -- The equations of the quotients and products within a form.
 use Rattle.std.proofs.Common.{◌≡◌, ℕ, List, [], ◌∷◌, ◌++◌, map, refl, ap, sym, ◌∙◌}
 use Rattle.std.specs.Prelude.{ℤ}
-use Rattle.fact_list.specs.Within.{Inside, wholes, whole_items, all_parts, all_item_parts, inside_step, inside_items_step, atom_parts, form_parts, list_parts, terms_parts}
+use Rattle.fact_list.specs.Within.{Inside, wholes, whole_items, all_parts, all_item_parts, inside_step, inside_items_step, atom_parts, form_parts, list_parts}
+use Rattle.fact_list.specs.Within.{terms_parts}
 use Rattle.affine_index.proofs.Induction.{Each, EachTerm, for_atoms, for_items}
 use Rattle.affine_index.specs.declared.form.Atom.{Atom}
 use Rattle.affine_index.specs.declared.form.Item.{Item}
@@ -48,14 +49,17 @@ whole-Div i k h = ap (λ r. r.whole) (seen-Div i k) ∙ ap (λ j. Div j k) h
 whole-Mul : (fs : List Atom) → Each (λ a. (seen a).whole ≡ a) fs → (seen (Mul fs)).whole ≡ Mul fs
 whole-Mul fs h = ap (λ r. r.whole) (seen-Mul fs) ∙ ap Mul (wholes-is fs h)
 
-whole-form : (ts : List (Item Atom)) (c : ℤ) → EachTerm (λ a. (seen a).whole ≡ a) ts → (seen_items (record { terms = ts; constant = c })).whole ≡ record { terms = ts; constant = c }
+whole-form : (ts : List (Item Atom)) (c : ℤ) → EachTerm (λ a. (seen a).whole ≡ a) ts
+    → (seen_items (record { terms = ts; constant = c })).whole ≡ record { terms = ts; constant = c }
 whole-form ts c h = ap (λ r. r.whole) (seen-items (record { terms = ts; constant = c })) ∙ ap (λ us. record { terms = us; constant = c }) (whole_items-is ts h)
 
 whole-is : (a : Atom) → (seen a).whole ≡ a
-whole-is = for_atoms (λ a. (seen a).whole ≡ a) (λ i. (seen_items i).whole ≡ i) (λ s. ap (λ r. r.whole) (seen-Size s)) (λ v. ap (λ r. r.whole) (seen-Var v)) whole-Div whole-Mul whole-form
+whole-is = for_atoms (λ a. (seen a).whole ≡ a) (λ i. (seen_items i).whole ≡ i) (λ s. ap (λ r. r.whole) (seen-Size s)) (λ v. ap (λ r. r.whole) (seen-Var v))
+    whole-Div whole-Mul whole-form
 
 whole_form-is : (i : Items) → (seen_items i).whole ≡ i
-whole_form-is = for_items (λ a. (seen a).whole ≡ a) (λ i. (seen_items i).whole ≡ i) (λ s. ap (λ r. r.whole) (seen-Size s)) (λ v. ap (λ r. r.whole) (seen-Var v)) whole-Div whole-Mul whole-form
+whole_form-is = for_items (λ a. (seen a).whole ≡ a) (λ i. (seen_items i).whole ≡ i) (λ s. ap (λ r. r.whole) (seen-Size s)) (λ v. ap (λ r. r.whole) (seen-Var v))
+    whole-Div whole-Mul whole-form
 
 all_wholes : (fs : List Atom) → Each (λ a. (seen a).whole ≡ a) fs
 all_wholes [] = tt

@@ -1,5 +1,6 @@
 -- The numbered facts of a goal: the bounds of the sizes, the assumes, the path, and what quotients and products add.
-use Rattle.std.specs.Prelude.{◌≡◌, ◌≤◌, ℕ, zero, suc, ◌-◌, List, [], ◌∷◌, ◌++◌, ℤ, pos, negsuc, neg_ℤ, Bool, true, false, ◌&&◌, eqb, if◌then◌else◌, slice_get, Option, Some, None}
+use Rattle.std.specs.Prelude.{◌≡◌, ◌≤◌, ℕ, zero, suc, ◌-◌, List, [], ◌∷◌, ◌++◌, ℤ, pos, negsuc, neg_ℤ, Bool, true, false, ◌&&◌, eqb, if◌then◌else◌, slice_get}
+use Rattle.std.specs.Prelude.{Option, Some, None}
 use Rattle.affine_index.specs.Count.{atom_count}
 use Rattle.affine_index.specs.Form.{literal_form, of_atom, var_form}
 use Rattle.affine_index.specs.Normal.{atom_is_ordered, holds_var, is_normal}
@@ -83,7 +84,8 @@ fact_if role (Some x) = at_least role x ∷ []
 abbrev pub size_facts : ℕ → List SizeBounds → List Fact
 size_facts s [] = []
 size_facts s (b ∷ bs) =
-    fact_if (BoundOf Lower (Size s)) (where_normal (above_low s b.low)) ++ (fact_if (BoundOf Upper (Size s)) (where_normal (below_high s b.high)) ++ size_facts (suc s) bs)
+    fact_if (BoundOf Lower (Size s)) (where_normal (above_low s b.low))
+        ++ (fact_if (BoundOf Upper (Size s)) (where_normal (below_high s b.high)) ++ size_facts (suc s) bs)
 
 -- a comparison, if it is kept
 abbrev pub stated_if : Bool → Cmp → List Fact
@@ -104,7 +106,8 @@ stated_facts (c ∷ cs) = stated_if (is_normal (cmp_form c)) c ++ stated_facts c
 abbrev pub path_facts : List PathFact → List Fact
 path_facts [] = []
 path_facts (Bound n ∷ ps) =
-    fact_if (BoundOf Lower (Var (binders ps))) (where_normal (var_form (binders ps))) ++ (fact_if (BoundOf Upper (Var (binders ps))) (where_normal (below_extent (binders ps) n)) ++ path_facts ps)
+    fact_if (BoundOf Lower (Var (binders ps))) (where_normal (var_form (binders ps)))
+        ++ (fact_if (BoundOf Upper (Var (binders ps))) (where_normal (below_extent (binders ps) n)) ++ path_facts ps)
 path_facts (Holds c ∷ ps) = moved_facts (binders ps) c.all ++ path_facts ps
 
 -- the facts that are declared: the sizes, the assumes, the path

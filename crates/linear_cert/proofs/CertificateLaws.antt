@@ -12,7 +12,8 @@ use Rattle.linear_cert.specs.Shown.{lines_show}
 use Rattle.linear_cert.specs.declared.lines.Line.{Line}
 
 -- these lines show the goal
-pub lines-given : (f : Facts) (goal : Items) (facts : List Fact) (lines : List Line) → facts ≡ facts_of f goal → AllNormal facts → is_normal goal ≡ true → Some lines ≡ default_lines_of (facts_of f goal) goal → lines_show (facts_of f goal) goal lines ≡ true
+pub lines-given : (f : Facts) (goal : Items) (facts : List Fact) (lines : List Line) → facts ≡ facts_of f goal → AllNormal facts → is_normal goal ≡ true
+    → Some lines ≡ default_lines_of (facts_of f goal) goal → lines_show (facts_of f goal) goal lines ≡ true
 lines-given f goal facts lines e normal n s =
     let known = subst AllNormal e normal in
     subst (Show (facts_of f goal) goal known n) (sym s) (default-shows (facts_of f goal) goal known n)

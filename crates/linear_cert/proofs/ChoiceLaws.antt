@@ -11,7 +11,8 @@ use Rattle.fact_list.proofs.Appending.{drop-item, take-item}
 use Rattle.fact_list.specs.declared.role.Role.TheVariants.{BoundOf, FactorOf, ProductOf}
 use Rattle.fact_list.specs.declared.role.Side.{Side}
 use Rattle.fact_list.specs.declared.role.Side.TheVariants.{Lower, Upper}
-use Rattle.linear_cert.specs.DefaultLines.{atom_or, chosen_factor, chosen_of, divisor_of, factor_role, layer_chosen, layer_divisor, layer_is_quotient, layer_role, role_for}
+use Rattle.linear_cert.specs.DefaultLines.{atom_or, chosen_factor, chosen_of, divisor_of, factor_role, layer_chosen, layer_divisor, layer_is_quotient}
+use Rattle.linear_cert.specs.DefaultLines.{layer_role, role_for}
 
 module _ {A : Type 0} (test : A → Bool) where
   first-true : (x : A) (xs : List A) → test x ≡ true → find test (x ∷ xs) ≡ Some x
@@ -34,7 +35,8 @@ module _ {A : Type 0} (test : A → Bool) where
   pub last-found : (xs : List A) (i : ℕ) (x : A) → i < length xs → x ≡ get_or xs i x → test x ≡ true → find test (reverse (take (i + 1) xs)) ≡ Some x
   last-found xs i x h e t = ap (find test) (turned xs i x h e) ∙ first-true x (reverse (take i xs)) t
 
-  pub last-skipped : (xs : List A) (i : ℕ) (x : A) → i < length xs → x ≡ get_or xs i x → test x ≡ false → find test (reverse (take i xs)) ≡ find test (reverse (take (i + 1) xs))
+  pub last-skipped : (xs : List A) (i : ℕ) (x : A) → i < length xs → x ≡ get_or xs i x → test x ≡ false
+      → find test (reverse (take i xs)) ≡ find test (reverse (take (i + 1) xs))
   last-skipped xs i x h e t = sym (ap (find test) (turned xs i x h e) ∙ first-false x (reverse (take i xs)) t)
 
 pub slice-at : {A : Type 0} (xs : List A) (i : ℕ) (x : A) → i < length xs → x ≡ get_or xs i x → slice_get xs i ≡ Some x

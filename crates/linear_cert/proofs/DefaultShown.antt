@@ -1,5 +1,7 @@
--- The lines that the procedure ends with show the goal: what is left of it and the facts as often as they were subtracted are, together, the goal as often as it was taken.
-use Rattle.std.proofs.Common.{◌≡◌, ℕ, zero, suc, ◌*◌, ◌/◌, ◌<◌, List, [], ◌∷◌, ◌++◌, length, drop, refl, ap, sym, ◌∙◌, Bool, true, false, ◌&&◌, ◌||◌, not, Option, Some, None, eqb, arith}
+-- The lines that the procedure ends with show the goal: what is left of it and the facts as often as they were subtracted are, together, the goal as often as
+-- it was taken.
+use Rattle.std.proofs.Common.{◌≡◌, ℕ, zero, suc, ◌*◌, ◌/◌, ◌<◌, List, [], ◌∷◌, ◌++◌, length, drop, refl, ap, sym, ◌∙◌, Bool, true, false, ◌&&◌, ◌||◌, not}
+use Rattle.std.proofs.Common.{Option, Some, None, eqb, arith}
 use Rattle.std.specs.Prelude.{ℤ, pos, negsuc, ◌+ℤ◌, ◌*ℤ◌, ◌≤ℤ◌, if◌then◌else◌, slice_get, unsigned_abs}
 use Rattle.std.specs.Option.{option_and_then, option_map, option_or}
 use Rattle.std.specs.Ordering.{int_eq}
@@ -29,8 +31,12 @@ use Rattle.fact_list.specs.declared.role.Role.{Role}
 use Rattle.fact_list.specs.declared.role.Role.TheVariants.{Stated, BoundOf, FactorOf, ProductOf}
 use Rattle.linear_cert.proofs.RoomLaws.{length-add, length-all, length-none, role-within}
 use Rattle.linear_cert.proofs.Weights.{constant-scaled, mark, no-weight, weight, weight-scaled, weight-sum}
-use Rattle.linear_cert.specs.DefaultLines.{add_at, all_times, attempt_lines, attempt_with, attempts_from, attempts_of_cmp, attempts_of_role, carried_on, chosen_factor, chosen_item, default_lines_of, divisor_of, fact_form, find_role, finished, first_attempt, first_lines, less_fact, limited_attempt, lines_from, needed, no_times, replaced, replaced_item, role_for, side_for, unless_done, with_bound}
-use Rattle.linear_cert.specs.Shown.{form_or_zero, is_negative_constant, line_sum, lines_good, lines_show, may_take, may_take_some, names_fact, negated, no_terms, numbered, taken}
+use Rattle.linear_cert.specs.DefaultLines.{add_at, all_times, attempt_lines, attempt_with, attempts_from, attempts_of_cmp, attempts_of_role, carried_on}
+use Rattle.linear_cert.specs.DefaultLines.{chosen_factor, chosen_item, default_lines_of, divisor_of, fact_form, find_role, finished, first_attempt, first_lines}
+use Rattle.linear_cert.specs.DefaultLines.{less_fact, limited_attempt, lines_from, needed, no_times, replaced, replaced_item, role_for, side_for, unless_done}
+use Rattle.linear_cert.specs.DefaultLines.{with_bound}
+use Rattle.linear_cert.specs.Shown.{form_or_zero, is_negative_constant, line_sum, lines_good, lines_show, may_take, may_take_some, names_fact, negated}
+use Rattle.linear_cert.specs.Shown.{no_terms, numbered, taken}
 use Rattle.linear_cert.specs.declared.attempt.Attempt.{Attempt}
 use Rattle.linear_cert.specs.declared.lines.Line.{Line}
 
@@ -58,7 +64,8 @@ module _ (L : Items → ℤ) (linear : Linear L) where
   weighed-all by (x ∷ xs) (z ∷ zs) =
       (λ k. *ℤ_assoc (pos by) z (L (cmp_form x.cmp)) k +ℤ weighed-all by xs zs k) ∙ sym (times-plus (pos by) (z *ℤ L (cmp_form x.cmp)) (weighed L xs zs))
 
-  weighed-add : (xs : List Fact) (zs : List ℤ) (n : ℕ) (m : ℤ) → n < length xs → length zs ≡ length xs → weighed L xs (add_at zs n m) ≡ weighed L xs zs +ℤ (m *ℤ L (fact_form xs n))
+  weighed-add : (xs : List Fact) (zs : List ℤ) (n : ℕ) (m : ℤ) → n < length xs → length zs ≡ length xs
+      → weighed L xs (add_at zs n m) ≡ weighed L xs zs +ℤ (m *ℤ L (fact_form xs n))
   weighed-add [] zs n m h e = absurd (omega arith)
   weighed-add (x ∷ xs) [] n m h e = absurd (omega arith)
   weighed-add (x ∷ xs) (z ∷ zs) zero m h e = let d = *ℤ_distrib z m (L (cmp_form x.cmp)) in omega (arith, ints)
@@ -78,7 +85,8 @@ module _ (L : Items → ℤ) (linear : Linear L) where
   abbrev Balanced : List Fact → Items → Attempt → Type 0
   Balanced facts goal a = L a.left +ℤ weighed L facts a.times ≡ pos a.goal_times *ℤ L goal
 
-  less-balanced : (facts : List Fact) (goal : Items) (a : Attempt) (by amount n : ℕ) → length a.times ≡ length facts → n < length facts → Balanced facts goal a → Balanced facts goal (less_fact facts a by amount n)
+  less-balanced : (facts : List Fact) (goal : Items) (a : Attempt) (by amount n : ℕ) → length a.times ≡ length facts → n < length facts → Balanced facts goal a
+      → Balanced facts goal (less_fact facts a by amount n)
   less-balanced facts goal a by amount n e h b =
       let f = fact_form facts n in
       let d = difference-L (scaled (pos by) a.left) (scaled (pos amount) f) in
@@ -124,7 +132,8 @@ may-none (x ∷ xs) = (one x.cmp, may-none xs)
     one (Ge i) = refl
     one (Eq i) = refl
 
-less-good : (facts : List Fact) (goal : Items) (a : Attempt) (by amount n : ℕ) → n < length facts → Good facts goal a → Good facts goal (less_fact facts a by amount n)
+less-good : (facts : List Fact) (goal : Items) (a : Attempt) (by amount n : ℕ) → n < length facts → Good facts goal a
+    → Good facts goal (less_fact facts a by amount n)
 less-good facts goal a by amount n h g = record {
   each = length-add (all_times by a.times) n (pos amount) ∙ length-all by a.times ∙ g.each;
   may = may-add facts (all_times by a.times) n amount (may-all by facts a.times g.may);
@@ -149,7 +158,8 @@ module _ (facts : List Fact) (goal : Items) where
 
   bound-good : (a : Attempt) (c k : ℕ) (o : Option ℕ) → ((n : ℕ) → Some n ≡ o → n < length facts) → Good facts goal a → GoodSome (with_bound facts a c k o)
   bound-good a c k None h g = tt
-  bound-good a c k (Some n) h g = limited-good (less_fact facts a (needed c k) ((c * needed c k) / k) n) (less-good facts goal a (needed c k) ((c * needed c k) / k) n (h n refl) g)
+  bound-good a c k (Some n) h g =
+      limited-good (less_fact facts a (needed c k) ((c * needed c k) / k) n) (less-good facts goal a (needed c k) ((c * needed c k) / k) n (h n refl) g)
 
   replaced-good : (a : Attempt) (o : Option (Item Atom)) → Good facts goal a → GoodSome (replaced_item facts a o)
   replaced-good a None g = tt
@@ -170,11 +180,13 @@ module _ (facts : List Fact) (goal : Items) where
       other : (n k : ℕ) → n < k → eqb n k ≡ false
       other n k h = grind arith
 
-      by : (b : Bool) → names_fact n (lines_from (suc k) zs) ≡ false → names_fact n (if b then lines_from (suc k) zs else record { fact = k; multiplier = z } ∷ lines_from (suc k) zs) ≡ false
+      by : (b : Bool) → names_fact n (lines_from (suc k) zs) ≡ false
+          → names_fact n (if b then lines_from (suc k) zs else record { fact = k; multiplier = z } ∷ lines_from (suc k) zs) ≡ false
       by true f = f
       by false f = (λ j. other n k h j || f j)
 
-  good-from : (k : ℕ) (xs : List Fact) (zs : List ℤ) → drop k facts ≡ xs → MayTake xs zs → length zs ≡ length xs → lines_good facts goal (lines_from (suc k) zs) ≡ true
+  good-from : (k : ℕ) (xs : List Fact) (zs : List ℤ) → drop k facts ≡ xs → MayTake xs zs → length zs ≡ length xs
+      → lines_good facts goal (lines_from (suc k) zs) ≡ true
   good-from k xs [] d m e = refl
   good-from k [] (z ∷ zs) d m e = absurd (omega arith)
   good-from k (x ∷ xs) (z ∷ zs) d m e = by (int_eq z (pos 0)) (good-from (suc k) xs zs (slice-drop facts k x xs d).1 m.1 (omega arith))
@@ -187,11 +199,13 @@ module _ (facts : List Fact) (goal : Items) where
       by true rest = rest
       by false rest =
           and_from (may_take_some z (numbered facts goal (suc k))) _ taken-well
-          (and_from (not (names_fact (suc k) (lines_from (suc (suc k)) zs))) (lines_good facts goal (lines_from (suc (suc k)) zs)) (ap not (never-named (suc k) (suc (suc k)) zs (omega arith))) rest)
+          (and_from (not (names_fact (suc k) (lines_from (suc (suc k)) zs))) (lines_good facts goal (lines_from (suc (suc k)) zs))
+              (ap not (never-named (suc k) (suc (suc k)) zs (omega arith))) rest)
 
   lines-good : (a : Attempt) → Good facts goal a → lines_good facts goal (attempt_lines a) ≡ true
   lines-good a g =
-      and_from (not (names_fact 0 (lines_from 1 a.times))) (lines_good facts goal (lines_from 1 a.times)) (ap not (never-named 0 1 a.times (omega arith))) (good-from 0 facts a.times refl g.may g.each)
+      and_from (not (names_fact 0 (lines_from 1 a.times))) (lines_good facts goal (lines_from 1 a.times)) (ap not (never-named 0 1 a.times (omega arith)))
+          (good-from 0 facts a.times refl g.may g.each)
 
   -- the forms of lines with their multipliers, under a number that goes with sums and multiples
   abbrev total : (Items → ℤ) → List (Item Items) → ℤ
@@ -206,7 +220,8 @@ module _ (facts : List Fact) (goal : Items) where
       let m = l.multiples t.coefficient t.atom in
       omega (arith, ints)
 
-  taken-L : (L : Items → ℤ) (k : ℕ) (xs : List Fact) (zs : List ℤ) → drop k facts ≡ xs → length zs ≡ length xs → total L (taken facts goal (lines_from (suc k) zs)) ≡ weighed L xs zs
+  taken-L : (L : Items → ℤ) (k : ℕ) (xs : List Fact) (zs : List ℤ) → drop k facts ≡ xs → length zs ≡ length xs
+      → total L (taken facts goal (lines_from (suc k) zs)) ≡ weighed L xs zs
   taken-L L k [] [] d e = refl
   taken-L L k (x ∷ xs) [] d e = absurd (omega arith)
   taken-L L k [] (z ∷ zs) d e = absurd (omega arith)
@@ -216,7 +231,8 @@ module _ (facts : List Fact) (goal : Items) where
       form = ap (λ o. form_or_zero (option_map (λ (y : Fact). y.cmp) o)) (slice-drop facts k x xs d).0
 
       by : (b : Bool) → (b ≡ true → z ≡ pos 0) → total L (taken facts goal (lines_from (suc (suc k)) zs)) ≡ weighed L xs zs
-          → total L (taken facts goal (if b then lines_from (suc (suc k)) zs else record { fact = suc k; multiplier = z } ∷ lines_from (suc (suc k)) zs)) ≡ (z *ℤ L (cmp_form x.cmp)) +ℤ weighed L xs zs
+          → total L (taken facts goal (if b then lines_from (suc (suc k)) zs else record { fact = suc k; multiplier = z } ∷ lines_from (suc (suc k)) zs)) ≡
+              (z *ℤ L (cmp_form x.cmp)) +ℤ weighed L xs zs
       by true none rest = let n = ap (λ y. y *ℤ L (cmp_form x.cmp)) (none refl) ∙ zero-*ℤ (L (cmp_form x.cmp)) in omega (arith, ints)
       by false none rest = (λ j. (z *ℤ L (form j)) +ℤ rest j)
 
@@ -245,7 +261,9 @@ module _ (facts : List Fact) (goal : Items) where
 
     add_up-ordered : (ts : List (Item Items)) (start : Items) → AllOrdered ts → is_ordered start ≡ true → is_ordered (add_up ts start) ≡ true
     add_up-ordered [] start h o = o
-    add_up-ordered (t ∷ ts) start h o = add_up-ordered ts (sum_of start (scaled t.coefficient t.atom)) h.1 (sum-ordered start (scaled t.coefficient t.atom) o (scaled-ordered t.coefficient t.atom h.0))
+    add_up-ordered (t ∷ ts) start h o =
+        add_up-ordered ts (sum_of start (scaled t.coefficient t.atom)) h.1
+        (sum-ordered start (scaled t.coefficient t.atom) o (scaled-ordered t.coefficient t.atom h.0))
 
     listed-ordered : (xs : List Fact) (n : ℕ) → AllNormal xs → is_ordered (form_or_zero (option_map (λ x. x.cmp) (slice_get xs n))) ≡ true
     listed-ordered [] n h = literal-ordered (pos 0)
@@ -262,13 +280,16 @@ module _ (facts : List Fact) (goal : Items) where
 
     sum-none : (a : Attempt) → Good facts goal a → a.left.terms ≡ [] → (line_sum facts goal (attempt_lines a)).terms ≡ []
     sum-none a g e =
-        no-weight (line_sum facts goal (attempt_lines a)) (add_up-ordered (taken facts goal (attempt_lines a)) (literal_form (pos 0)) (taken-ordered (attempt_lines a)) (literal-ordered (pos 0)))
+        no-weight (line_sum facts goal (attempt_lines a))
+            (add_up-ordered (taken facts goal (attempt_lines a)) (literal_form (pos 0)) (taken-ordered (attempt_lines a)) (literal-ordered (pos 0)))
         (λ b. zero-from (mark b) (sum-L (λ i. weight (mark b) i.terms) (weight-linear (mark b)) a g))
       where
-        zero-from : (w : Atom → ℤ) → weight w (line_sum facts goal (attempt_lines a)).terms +ℤ weight w a.left.terms ≡ pos 0 +ℤ (pos a.goal_times *ℤ pos 0) → weight w (line_sum facts goal (attempt_lines a)).terms ≡ pos 0
+        zero-from : (w : Atom → ℤ) → weight w (line_sum facts goal (attempt_lines a)).terms +ℤ weight w a.left.terms ≡ pos 0 +ℤ (pos a.goal_times *ℤ pos 0)
+            → weight w (line_sum facts goal (attempt_lines a)).terms ≡ pos 0
         zero-from w h = let none = ap (weight w) e in let times = *ℤ-zero (pos a.goal_times) in omega (arith, ints)
 
-    sum-constant : (a : Attempt) → Good facts goal a → at_least_zero (a.left.constant +ℤ (pos a.goal_times +ℤ negsuc 0)) ≡ true → at_least_zero (line_sum facts goal (attempt_lines a)).constant ≡ false
+    sum-constant : (a : Attempt) → Good facts goal a → at_least_zero (a.left.constant +ℤ (pos a.goal_times +ℤ negsuc 0)) ≡ true
+        → at_least_zero (line_sum facts goal (attempt_lines a)).constant ≡ false
     sum-constant a g h =
         let s = sum-L (λ i. i.constant) constant-linear a g in
         let p = at_least_zero-is _ h in
@@ -296,11 +317,13 @@ module _ (facts : List Fact) (goal : Items) where
             (λ k. no_terms (sum-none a g e k) && not (sum-constant a g h k))
         by false h = tt
 
-    done-shows : (ts : List (Item Atom)) (a : Attempt) (rest : Option (List Line)) → a.left.terms ≡ ts → Good facts goal a → Show rest → Show (unless_done ts a rest)
+    done-shows : (ts : List (Item Atom)) (a : Attempt) (rest : Option (List Line)) → a.left.terms ≡ ts → Good facts goal a → Show rest
+        → Show (unless_done ts a rest)
     done-shows [] a rest e g m = finished-shows a e g
     done-shows (t ∷ ts) a rest e g m = m
 
-    then-shows : (next : Attempt → Option (List Line)) → ((a : Attempt) → Good facts goal a → Show (next a)) → (o : Option Attempt) → GoodSome o → Show (option_and_then next o)
+    then-shows : (next : Attempt → Option (List Line)) → ((a : Attempt) → Good facts goal a → Show (next a)) → (o : Option Attempt) → GoodSome o
+        → Show (option_and_then next o)
     then-shows next f None g = tt
     then-shows next f (Some a) g = f a g
 
@@ -349,7 +372,8 @@ module _ (facts : List Fact) (goal : Items) where
     same_some : (x y : Fact) → Some x ≡ Some y → x ≡ y
     same_some x y e = cc
 
-    with-good : (n : ℕ) (x : Fact) (m : ℤ) → slice_get facts n ≡ Some x → may_take m x.cmp ≡ true → Good facts goal (attempt_with facts goal n (cmp_form x.cmp) m)
+    with-good : (n : ℕ) (x : Fact) (m : ℤ) → slice_get facts n ≡ Some x → may_take m x.cmp ≡ true
+        → Good facts goal (attempt_with facts goal n (cmp_form x.cmp) m)
     with-good n x m e t = record {
       each = length-add (no_times facts) n m ∙ length-none facts;
       may = may-once facts n m (λ y f. ap (λ (z : Fact). may_take m z.cmp) (same_some y x (sym f ∙ e)) ∙ t);
@@ -365,7 +389,8 @@ module _ (facts : List Fact) (goal : Items) where
 
     cmp-good : (n : ℕ) (r : Role) (c : Cmp) → slice_get facts n ≡ Some (record { role = r; cmp = c }) → AllGood (attempts_of_cmp facts goal n c)
     cmp-good n r (Ge x) e = (with-good n (record { role = r; cmp = Ge x }) (pos 1) e refl, tt)
-    cmp-good n r (Eq x) e = (with-good n (record { role = r; cmp = Eq x }) (pos 1) e refl, (with-good n (record { role = r; cmp = Eq x }) (negsuc 0) e refl, tt))
+    cmp-good n r (Eq x) e = (with-good n (record { role = r; cmp = Eq x }) (pos 1) e refl,
+        (with-good n (record { role = r; cmp = Eq x }) (negsuc 0) e refl, tt))
 
     role-good : (n : ℕ) (r : Role) (c : Cmp) → slice_get facts n ≡ Some (record { role = r; cmp = c }) → AllGood (attempts_of_role facts goal n r c)
     role-good n Stated c e = cmp-good n Stated c e
@@ -381,7 +406,8 @@ module _ (facts : List Fact) (goal : Items) where
     attempts-good n [] d = tt
     attempts-good n (x ∷ xs) d =
         let s = slice-drop facts n x xs d in
-        good-append (attempts_of_role facts goal n x.role x.cmp) (attempts_from facts goal (suc n) xs) (role-good n x.role x.cmp s.0) (attempts-good (suc n) xs s.1)
+        good-append (attempts_of_role facts goal n x.role x.cmp) (attempts_from facts goal (suc n) xs) (role-good n x.role x.cmp s.0)
+            (attempts-good (suc n) xs s.1)
 
     -- the lines that the procedure ends with show the goal
     pub default-shows : Show (default_lines_of facts goal)

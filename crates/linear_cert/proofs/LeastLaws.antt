@@ -49,15 +49,20 @@ lesser-again (Some a) (Some b) None = refl
 lesser-again (Some a) (Some b) (Some c) = ap Some (min_again a b c)
 
 -- one atom more
-pub least-next : (fs : List Atom) (i : ℕ) (x : Atom) (v w u : Option ℕ) → i < length fs → x ≡ get_or fs i x → u ≡ atom_least x → w ≡ lesser v u → lesser w (list_least (drop (i + 1) fs)) ≡ lesser v (list_least (drop i fs))
+pub least-next : (fs : List Atom) (i : ℕ) (x : Atom) (v w u : Option ℕ) → i < length fs → x ≡ get_or fs i x → u ≡ atom_least x → w ≡ lesser v u
+    → lesser w (list_least (drop (i + 1) fs)) ≡ lesser v (list_least (drop i fs))
 least-next fs i x v w u h e a b =
-    (λ k. lesser ((b ∙ ap (lesser v) a) k) (list_least (drop (i + 1) fs))) ∙ lesser-again v (atom_least x) (list_least (drop (i + 1) fs)) ∙ ap (λ gs. lesser v (list_least gs)) (sym (drop-item fs i x h e))
+    (λ k. lesser ((b ∙ ap (lesser v) a) k) (list_least (drop (i + 1) fs))) ∙ lesser-again v (atom_least x) (list_least (drop (i + 1) fs))
+        ∙ ap (λ gs. lesser v (list_least gs)) (sym (drop-item fs i x h e))
 
-pub least_term-next : (ts : List (Item Atom)) (i : ℕ) (x : Item Atom) (v w u : Option ℕ) → i < length ts → x ≡ get_or ts i x → u ≡ atom_least x.atom → w ≡ lesser v u → lesser w (terms_least (drop (i + 1) ts)) ≡ lesser v (terms_least (drop i ts))
+pub least_term-next : (ts : List (Item Atom)) (i : ℕ) (x : Item Atom) (v w u : Option ℕ) → i < length ts → x ≡ get_or ts i x → u ≡ atom_least x.atom
+    → w ≡ lesser v u → lesser w (terms_least (drop (i + 1) ts)) ≡ lesser v (terms_least (drop i ts))
 least_term-next ts i x v w u h e a b =
-    (λ k. lesser ((b ∙ ap (lesser v) a) k) (terms_least (drop (i + 1) ts))) ∙ lesser-again v (atom_least x.atom) (terms_least (drop (i + 1) ts)) ∙ ap (λ gs. lesser v (terms_least gs)) (sym (drop-item ts i x h e))
+    (λ k. lesser ((b ∙ ap (lesser v) a) k) (terms_least (drop (i + 1) ts))) ∙ lesser-again v (atom_least x.atom) (terms_least (drop (i + 1) ts))
+        ∙ ap (λ gs. lesser v (terms_least gs)) (sym (drop-item ts i x h e))
 
-pub least-end : (form : Items) (n : ℕ) (v : Option ℕ) → length form.terms ≤ n → lesser v (terms_least (drop n form.terms)) ≡ terms_least form.terms → v ≡ form_least form
+pub least-end : (form : Items) (n : ℕ) (v : Option ℕ) → length form.terms ≤ n → lesser v (terms_least (drop n form.terms)) ≡ terms_least form.terms
+    → v ≡ form_least form
 least-end form n v h e = sym (ap (λ ts. lesser v (terms_least ts)) (drop-all n form.terms h) ∙ lesser-None v) ∙ e ∙ sym (least-items form)
 
 pub ruleset least_laws = (least-Size, least-Var, least-Div, least-Mul, least-items, lesser-None)

@@ -1,5 +1,6 @@
 -- What the check of given lines rests on.
-use Rattle.std.proofs.Common.{◌≡◌, ℕ, zero, suc, ◌+◌, ◌-◌, ◌*◌, ◌^◌, ◌<◌, ◌≤◌, List, [], ◌∷◌, map, length, drop, refl, ap, sym, ◌∙◌, subst, Bool, true, false, ◌&&◌, ◌||◌, not, eqb, get_or, arith}
+use Rattle.std.proofs.Common.{◌≡◌, ℕ, zero, suc, ◌+◌, ◌-◌, ◌*◌, ◌^◌, ◌<◌, ◌≤◌, List, [], ◌∷◌, map, length, drop, refl, ap, sym, ◌∙◌, subst, Bool, true, false}
+use Rattle.std.proofs.Common.{◌&&◌, ◌||◌, not, eqb, get_or, arith}
 use Rattle.std.specs.Prelude.{ℤ, pos, negsuc, slice_get}
 use Rattle.std.specs.Int.RustNames.{unsigned_abs}
 use Rattle.std.specs.Option.{option_map}
@@ -78,7 +79,9 @@ none_equal : (n : ℕ) (ls : List Line) → names_fact n ls ≡ false → AllByR
 none_equal n [] h = tt
 none_equal n (l ∷ ls) h = by (eqb n l.fact) (names_fact n ls) refl refl h (none_equal n ls)
   where
-    by : (a b : Bool) → eqb n l.fact ≡ a → names_fact n ls ≡ b → (a || b) ≡ false → (names_fact n ls ≡ false → AllByRecursion (λ y. eqb n y ≡ false) (map (λ l. l.fact) ls)) → AllByRecursion (λ y. eqb n y ≡ false) (map (λ l. l.fact) (l ∷ ls))
+    by : (a b : Bool) → eqb n l.fact ≡ a → names_fact n ls ≡ b → (a || b) ≡ false
+        → (names_fact n ls ≡ false → AllByRecursion (λ y. eqb n y ≡ false) (map (λ l. l.fact) ls))
+        → AllByRecursion (λ y. eqb n y ≡ false) (map (λ l. l.fact) (l ∷ ls))
     by false false e g h k = (e, k g)
     by false true e g h k = absurd (cc)
     by true b e g h k = absurd (cc)
@@ -91,14 +94,17 @@ distinct_numbers facts goal (l ∷ ls) h = let a = first_good facts goal l ls h 
 same_numbers : (q n : ℕ) → eqb q n ≡ true → q ≡ n
 same_numbers q n h = grind arith
 
-one_below : (facts : List Fact) (goal : Items) (l : Line) (ls : List Line) → FirstGood facts goal l ls → (q : ℕ) (b : Bool) → eqb q l.fact ≡ b → (b || list_any (eqb q) (map (λ l. l.fact) ls)) ≡ true
+one_below : (facts : List Fact) (goal : Items) (l : Line) (ls : List Line) → FirstGood facts goal l ls → (q : ℕ) (b : Bool) → eqb q l.fact ≡ b
+    → (b || list_any (eqb q) (map (λ l. l.fact) ls)) ≡ true
     → (list_any (eqb q) (map (λ l. l.fact) ls) ≡ true → q < length facts + 1) → q < length facts + 1
 one_below facts goal l ls a q true f e k = omega (arith, a.within, same_numbers q l.fact f)
 one_below facts goal l ls a q false f e k = k e
 
-numbers_below : (facts : List Fact) (goal : Items) (ls : List Line) → lines_good facts goal ls ≡ true → (q : ℕ) → list_any (eqb q) (map (λ l. l.fact) ls) ≡ true → q < length facts + 1
+numbers_below : (facts : List Fact) (goal : Items) (ls : List Line) → lines_good facts goal ls ≡ true → (q : ℕ) → list_any (eqb q) (map (λ l. l.fact) ls) ≡ true
+    → q < length facts + 1
 numbers_below facts goal [] h q e = absurd (cc)
-numbers_below facts goal (l ∷ ls) h q e = let a = first_good facts goal l ls h in one_below facts goal l ls a q (eqb q l.fact) refl e (numbers_below facts goal ls a.rest q)
+numbers_below facts goal (l ∷ ls) h q e = let a = first_good facts goal l ls h in
+    one_below facts goal l ls a q (eqb q l.fact) refl e (numbers_below facts goal ls a.rest q)
 
 -- lines that name each fact at most once are few
 pub lines-few : (facts : List Fact) (goal : Items) (ls : List Line) → lines_good facts goal ls ≡ true → length ls ≤ length facts + 1
@@ -111,7 +117,8 @@ lines-few facts goal ls h =
     length-map_is (l ∷ ls) = ap suc (length-map_is ls)
 
 -- a line that may not be taken
-pub bad-line : (facts : List Fact) (goal : Items) (ls : List Line) (i : ℕ) (d : Line) → i < length ls → false ≡ may_take_some (get_or ls i d).multiplier (numbered facts goal (get_or ls i d).fact) → false ≡ lines_good facts goal (drop i ls)
+pub bad-line : (facts : List Fact) (goal : Items) (ls : List Line) (i : ℕ) (d : Line) → i < length ls
+    → false ≡ may_take_some (get_or ls i d).multiplier (numbered facts goal (get_or ls i d).fact) → false ≡ lines_good facts goal (drop i ls)
 bad-line facts goal [] i d h f = absurd (omega arith)
 bad-line facts goal (l ∷ ls) zero d h f = by (may_take_some l.multiplier (numbered facts goal l.fact)) f
   where
@@ -121,31 +128,38 @@ bad-line facts goal (l ∷ ls) zero d h f = by (may_take_some l.multiplier (numb
 bad-line facts goal (l ∷ ls) (suc i) d h f = bad-line facts goal ls i d (omega arith) f
 
 -- the line at a place of good lines, and what follows it
-good_at : (facts : List Fact) (goal : Items) (ls : List Line) (i : ℕ) (d : Line) → i < length ls → lines_good facts goal (drop i ls) ≡ true → ((get_or ls i d).fact ≤ length facts) × (lines_good facts goal (drop (suc i) ls) ≡ true)
+good_at : (facts : List Fact) (goal : Items) (ls : List Line) (i : ℕ) (d : Line) → i < length ls → lines_good facts goal (drop i ls) ≡ true
+    → ((get_or ls i d).fact ≤ length facts) × (lines_good facts goal (drop (suc i) ls) ≡ true)
 good_at facts goal [] i d h f = absurd (omega arith)
 good_at facts goal (l ∷ ls) zero d h f = let a = first_good facts goal l ls f in (a.within, a.rest)
 good_at facts goal (l ∷ ls) (suc i) d h f = good_at facts goal ls i d (omega arith) f
 
-pub good-at : (facts : List Fact) (goal : Items) (ls : List Line) (i : ℕ) (d : Line) → i < length ls → lines_good facts goal (drop i ls) ≡ true → (get_or ls i d).fact ≤ length facts
+pub good-at : (facts : List Fact) (goal : Items) (ls : List Line) (i : ℕ) (d : Line) → i < length ls → lines_good facts goal (drop i ls) ≡ true
+    → (get_or ls i d).fact ≤ length facts
 good-at facts goal ls i d h f = (good_at facts goal ls i d h f).0
 
-pub good-next : (facts : List Fact) (goal : Items) (ls : List Line) (i : ℕ) → i < length ls → lines_good facts goal (drop i ls) ≡ true → lines_good facts goal (drop (i + 1) ls) ≡ true
-good-next facts goal ls i h f = subst (λ (n : ℕ). lines_good facts goal (drop n ls) ≡ true) (turn i) (good_at facts goal ls i (record { fact = 0; multiplier = pos 0 }) h f).1
+pub good-next : (facts : List Fact) (goal : Items) (ls : List Line) (i : ℕ) → i < length ls → lines_good facts goal (drop i ls) ≡ true
+    → lines_good facts goal (drop (i + 1) ls) ≡ true
+good-next facts goal ls i h f =
+    subst (λ (n : ℕ). lines_good facts goal (drop n ls) ≡ true) (turn i) (good_at facts goal ls i (record { fact = 0; multiplier = pos 0 }) h f).1
   where
     turn : (i : ℕ) → suc i ≡ i + 1
     turn i = omega arith
 
 -- one line more
 taken_next : (facts : List Fact) (goal : Items) (ls : List Line) (i : ℕ) (d : Line) (t : Items) → i < length ls
-    → add_up (taken facts goal (drop i ls)) t ≡ add_up (taken facts goal (drop (suc i) ls)) (sum_of t (scaled (get_or ls i d).multiplier (form_or_zero (numbered facts goal (get_or ls i d).fact))))
+    → add_up (taken facts goal (drop i ls)) t ≡ add_up (taken facts goal (drop (suc i) ls))
+        (sum_of t (scaled (get_or ls i d).multiplier (form_or_zero (numbered facts goal (get_or ls i d).fact))))
 taken_next facts goal [] i d t h = absurd (omega arith)
 taken_next facts goal (l ∷ ls) zero d t h = refl
 taken_next facts goal (l ∷ ls) (suc i) d t h = taken_next facts goal ls i d t (omega arith)
 
-pub taken-next : (facts : List Fact) (goal : Items) (ls : List Line) (i : ℕ) (d : Line) (t u f : Items) → i < length ls → u ≡ sum_of t (scaled (get_or ls i d).multiplier f) → f ≡ form_or_zero (numbered facts goal (get_or ls i d).fact)
+pub taken-next : (facts : List Fact) (goal : Items) (ls : List Line) (i : ℕ) (d : Line) (t u f : Items) → i < length ls
+    → u ≡ sum_of t (scaled (get_or ls i d).multiplier f) → f ≡ form_or_zero (numbered facts goal (get_or ls i d).fact)
     → add_up (taken facts goal (drop (i + 1) ls)) u ≡ add_up (taken facts goal (drop i ls)) t
 taken-next facts goal ls i d t u f h e g =
-    (λ k. add_up (taken facts goal (drop (turn i k) ls)) ((e ∙ ap (λ x. sum_of t (scaled (get_or ls i d).multiplier x)) g) k)) ∙ sym (taken_next facts goal ls i d t h)
+    (λ k. add_up (taken facts goal (drop (turn i k) ls)) ((e ∙ ap (λ x. sum_of t (scaled (get_or ls i d).multiplier x)) g) k))
+        ∙ sym (taken_next facts goal ls i d t h)
   where
     turn : (i : ℕ) → i + 1 ≡ suc i
     turn i = omega arith

@@ -20,7 +20,8 @@ use Rattle.fact_list.proofs.FactsTrue.{at_least_zero-from, at_least_zero-is}
 use Rattle.fact_list.proofs.NotNegative.{times-not_negative}
 use Rattle.fact_list.specs.Truth.{AllTrue}
 use Rattle.fact_list.specs.declared.role.Fact.{Fact}
-use Rattle.linear_cert.specs.Shown.{first_total, form_or_zero, is_negative_constant, line_sum, lines_good, lines_show, may_take_some, names_fact, negated, no_terms, numbered, taken}
+use Rattle.linear_cert.specs.Shown.{first_total, form_or_zero, is_negative_constant, line_sum, lines_good, lines_show, may_take_some, names_fact, negated}
+use Rattle.linear_cert.specs.Shown.{no_terms, numbered, taken}
 use Rattle.linear_cert.specs.declared.lines.Line.{Line}
 
 module _ (s r : List ℕ) (facts : List Fact) (goal : Items) (hold : AllTrue s r facts) where
@@ -64,7 +65,8 @@ module _ (s r : List ℕ) (facts : List Fact) (goal : Items) (hold : AllTrue s r
         omega (arith, ints)
 
     negative : (i : Items) → is_negative_constant i ≡ true → pos 0 ≤ℤ items_value s r i → ⊥
-    negative i u h = by i.terms i.constant (and_parts (no_terms i.terms) (not (at_least_zero i.constant)) u).0 (and_parts (no_terms i.terms) (not (at_least_zero i.constant)) u).1 (subst (λ (z : ℤ). pos 0 ≤ℤ z) (items_value-is s r i) h)
+    negative i u h = by i.terms i.constant (and_parts (no_terms i.terms) (not (at_least_zero i.constant)) u).0
+        (and_parts (no_terms i.terms) (not (at_least_zero i.constant)) u).1 (subst (λ (z : ℤ). pos 0 ≤ℤ z) (items_value-is s r i) h)
       where
         by : (ts : List (Item Atom)) (c : ℤ) → no_terms ts ≡ true → not (at_least_zero c) ≡ true → pos 0 ≤ℤ (terms_value s r ts +ℤ c) → ⊥
         by [] (pos n) t u h = cc

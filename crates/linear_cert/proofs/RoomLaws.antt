@@ -1,5 +1,6 @@
 -- An attempt stays small: each replacement multiplies it with the multiplier of the goal, and adds few times a small fact.
-use Rattle.std.proofs.Common.{◌≡◌, ℕ, zero, suc, ◌+◌, ◌*◌, ◌^◌, ◌/◌, ◌<◌, ◌≤◌, List, [], ◌∷◌, length, get_or, refl, ap, sym, ◌∙◌, subst, Bool, true, false, ◌&&◌, cond, Option, Some, None, nat_le, mul-le-mul, arith}
+use Rattle.std.proofs.Common.{◌≡◌, ℕ, zero, suc, ◌+◌, ◌*◌, ◌^◌, ◌/◌, ◌<◌, ◌≤◌, List, [], ◌∷◌, length, get_or, refl, ap, sym, ◌∙◌, subst, Bool, true, false}
+use Rattle.std.proofs.Common.{◌&&◌, cond, Option, Some, None, nat_le, mul-le-mul, arith}
 use Rattle.std.specs.Prelude.{ℤ, pos, negsuc, ◌+ℤ◌, ◌*ℤ◌, ◌≤ℤ◌, if◌then◌else◌, slice_get}
 use Rattle.std.specs.Int.RustNames.{unsigned_abs}
 use Rattle.std.specs.List.{find}
@@ -30,7 +31,9 @@ use Rattle.fact_list.specs.Normal.{AllNormal}
 use Rattle.fact_list.specs.declared.role.Fact.{Fact}
 use Rattle.fact_list.specs.declared.role.Side.{Side}
 use Rattle.linear_cert.proofs.ChoiceLaws.{divisor-Div, divisor-Mul, divisor-Size, divisor-Var, factor-Div, factor-Mul, factor-Size, factor-Var, slice-at}
-use Rattle.linear_cert.specs.DefaultLines.{add_at, all_times, atom_least, atom_or, chosen_factor, chosen_item, chosen_of, divisor_of, fact_form, find_role, layer_is_quotient, less_fact, limited_attempt, multiplier_fits, multipliers_fit, needed, no_times, replaced, replaced_item, role_for, side_for, with_bound}
+use Rattle.linear_cert.specs.DefaultLines.{add_at, all_times, atom_least, atom_or, chosen_factor, chosen_item, chosen_of, divisor_of, fact_form, find_role}
+use Rattle.linear_cert.specs.DefaultLines.{layer_is_quotient, less_fact, limited_attempt, multiplier_fits, multipliers_fit, needed, no_times, replaced}
+use Rattle.linear_cert.specs.DefaultLines.{replaced_item, role_for, side_for, with_bound}
 use Rattle.linear_cert.specs.Room.{AllAbove, Room, StepOf}
 use Rattle.linear_cert.specs.declared.attempt.Attempt.{Attempt}
 use Rattle.linear_cert.specs.declared.attempt.Step.{Step}
@@ -78,7 +81,8 @@ factor-ordered = by_kind (λ a. Ordered a → Ordered (chosen_factor a))
     (λ i k o. subst Ordered (sym (factor-Div i k)) o)
     (λ fs o. subst Ordered (sym (factor-Mul fs)) (atom_or-ordered (Mul fs) (chosen_of fs) o
     (let each = (mul_parts fs o).good.ordered in
-    or-ordered (find (λ a. is_some (atom_least a)) fs) _ (find-ordered _ fs each) (or-ordered (find (λ a. layer_is_quotient (out-Atom a)) fs) (slice_get fs 0) (find-ordered _ fs each) (first-ordered fs each)))))
+    or-ordered (find (λ a. is_some (atom_least a)) fs) _ (find-ordered _ fs each)
+        (or-ordered (find (λ a. layer_is_quotient (out-Atom a)) fs) (slice_get fs 0) (find-ordered _ fs each) (first-ordered fs each)))))
 
 divisor-positive : (a : Atom) → Ordered a → 0 < divisor_of a
 divisor-positive = by_kind (λ a. Ordered a → 0 < divisor_of a)
@@ -88,14 +92,16 @@ divisor-positive = by_kind (λ a. Ordered a → 0 < divisor_of a)
     (λ fs o. omega (arith, divisor-Mul fs))
 
 -- the divisor of the factor of an item of a normal form is above 0
-pub divisor-some : (form : Items) (i : ℕ) (x : Item Atom) → is_ordered form ≡ true → i < length form.terms → x ≡ get_or form.terms i x → 0 < divisor_of (chosen_factor x.atom)
+pub divisor-some : (form : Items) (i : ℕ) (x : Item Atom) → is_ordered form ≡ true → i < length form.terms → x ≡ get_or form.terms i x
+    → 0 < divisor_of (chosen_factor x.atom)
 divisor-some form i x o h e = divisor-positive (chosen_factor x.atom) (factor-ordered x.atom (atom-at form.terms i x h e (ordered-terms form o).1))
 
 find_role-within : (r : _) (n : ℕ) (xs : List Fact) (k : ℕ) → find_role r n xs ≡ Some k → k < n + length xs
 find_role-within r n [] k e = absurd (cc)
 find_role-within r n (x ∷ xs) k e = by _ e (λ h. omega (arith, find_role-within r (suc n) xs k h))
   where
-    by : (b : Bool) → (if b then Some n else find_role r (suc n) xs) ≡ Some k → (find_role r (suc n) xs ≡ Some k → k < n + suc (length xs)) → k < n + suc (length xs)
+    by : (b : Bool) → (if b then Some n else find_role r (suc n) xs) ≡ Some k → (find_role r (suc n) xs ≡ Some k → k < n + suc (length xs))
+        → k < n + suc (length xs)
     by true e f = let same : n ≡ k = cc in omega arith
     by false e f = f e
 
@@ -106,23 +112,29 @@ role-within r xs k e = omega (arith, find_role-within r 0 xs k (sym e))
 pub step-none : (facts : List Fact) (a : Attempt) → chosen_item a.left ≡ None → replaced facts a ≡ None
 step-none facts a e = ap (replaced_item facts a) e
 
-pub step-lost : (facts : List Fact) (a : Attempt) (t : Item Atom) → chosen_item a.left ≡ Some t → find_role (role_for (side_for t.coefficient) t.atom (chosen_factor t.atom)) 0 facts ≡ None → replaced facts a ≡ None
+pub step-lost : (facts : List Fact) (a : Attempt) (t : Item Atom) → chosen_item a.left ≡ Some t
+    → find_role (role_for (side_for t.coefficient) t.atom (chosen_factor t.atom)) 0 facts ≡ None → replaced facts a ≡ None
 step-lost facts a t e f = ap (replaced_item facts a) e ∙ ap (with_bound facts a (unsigned_abs t.coefficient) (divisor_of (chosen_factor t.atom))) f
 
-pub step-found : (facts : List Fact) (a : Attempt) (t : Item Atom) (n by amount k c : ℕ) → chosen_item a.left ≡ Some t → find_role (role_for (side_for t.coefficient) t.atom (chosen_factor t.atom)) 0 facts ≡ Some n
-    → k ≡ divisor_of (chosen_factor t.atom) → c ≡ unsigned_abs t.coefficient → by ≡ needed c k → amount ≡ (c * by) / k → replaced facts a ≡ limited_attempt (less_fact facts a by amount n)
+pub step-found : (facts : List Fact) (a : Attempt) (t : Item Atom) (n by amount k c : ℕ) → chosen_item a.left ≡ Some t
+    → find_role (role_for (side_for t.coefficient) t.atom (chosen_factor t.atom)) 0 facts ≡ Some n
+    → k ≡ divisor_of (chosen_factor t.atom) → c ≡ unsigned_abs t.coefficient → by ≡ needed c k → amount ≡ (c * by) / k
+        → replaced facts a ≡ limited_attempt (less_fact facts a by amount n)
 step-found facts a t n by amount k c e f ek ec eb ea =
     ap (replaced_item facts a) e ∙ ap (with_bound facts a (unsigned_abs t.coefficient) (divisor_of (chosen_factor t.atom))) f
     ∙ (λ j. with_bound facts a (sym ec j) (sym ek j) (Some n))
     ∙ sym (λ j. limited_attempt (less_fact facts a (eb j) ((ea ∙ ap (λ m. (c * m) / k) eb) j) n))
 
 -- the divisor of what an attempt replaces
-pub divisor-is : (form : Items) (at : ℕ) (t : Item Atom) (atom factor : Atom) (k : ℕ) → is_ordered form ≡ true → at < length form.terms → t ≡ get_or form.terms at t → atom ≡ t.atom → factor ≡ chosen_factor atom → k ≡ divisor_of factor → 0 < k
+pub divisor-is : (form : Items) (at : ℕ) (t : Item Atom) (atom factor : Atom) (k : ℕ) → is_ordered form ≡ true → at < length form.terms
+    → t ≡ get_or form.terms at t → atom ≡ t.atom → factor ≡ chosen_factor atom → k ≡ divisor_of factor → 0 < k
 divisor-is form at t atom factor k o h e a f d = subst (λ n. 0 < n) (sym (d ∙ ap divisor_of (f ∙ ap chosen_factor a))) (divisor-some form at t o h e)
 
 -- what an attempt is after a step
-pub step-is : (facts : List Fact) (a : Attempt) (at : ℕ) (t : Item Atom) (atom other factor : Atom) (z y : ℤ) (side : Side) (n k c by amount : ℕ) → slice_get a.left.terms at ≡ chosen_item a.left → at < length a.left.terms → t ≡ get_or a.left.terms at t
-    → atom ≡ t.atom → factor ≡ chosen_factor atom → z ≡ t.coefficient → side ≡ side_for z → other ≡ t.atom → Some n ≡ find_role (role_for side other factor) 0 facts → k ≡ divisor_of factor → y ≡ t.coefficient → c ≡ unsigned_abs y
+pub step-is : (facts : List Fact) (a : Attempt) (at : ℕ) (t : Item Atom) (atom other factor : Atom) (z y : ℤ) (side : Side) (n k c by amount : ℕ)
+    → slice_get a.left.terms at ≡ chosen_item a.left → at < length a.left.terms → t ≡ get_or a.left.terms at t
+    → atom ≡ t.atom → factor ≡ chosen_factor atom → z ≡ t.coefficient → side ≡ side_for z → other ≡ t.atom
+        → Some n ≡ find_role (role_for side other factor) 0 facts → k ≡ divisor_of factor → y ≡ t.coefficient → c ≡ unsigned_abs y
     → by ≡ needed c k → amount ≡ (c * by) / k → replaced facts a ≡ limited_attempt (less_fact facts a by amount n)
 step-is facts a at t atom other factor z y side n k c by amount chosen h e ea ef ez es eo en ek ey ec eb em =
     let f = ef ∙ ap chosen_factor ea in
@@ -192,11 +204,14 @@ at_least-once m h = omega arith
 grown : (m b n : ℕ) → m * (b + suc n * 2 ^ 80) ≡ m * (b + n * 2 ^ 80) + m * 2 ^ 80
 grown m b n = grind arith
 
-difference-norm : (by amount : ℕ) (left form : Items) → norm (difference_of (scaled (pos by) left) (scaled (pos amount) form)) ≤ by * norm left + amount * norm form
+difference-norm : (by amount : ℕ) (left form : Items)
+    → norm (difference_of (scaled (pos by) left) (scaled (pos amount) form)) ≤ by * norm left + amount * norm form
 difference-norm by amount left form =
-    omega (arith, sum-norm (scaled (pos by) left) (scaled (negsuc 0) (scaled (pos amount) form)), scaled-norm (pos by) left, scaled-norm (negsuc 0) (scaled (pos amount) form), scaled-norm (pos amount) form)
+    omega (arith, sum-norm (scaled (pos by) left) (scaled (negsuc 0) (scaled (pos amount) form)), scaled-norm (pos by) left,
+        scaled-norm (negsuc 0) (scaled (pos amount) form), scaled-norm (pos amount) form)
 
-small-next : (n by m amount l f w : ℕ) → l ≤ m * (2 ^ 50 + n * 2 ^ 80) → f ≤ 2 ^ 48 → amount ≤ 2 ^ 32 → 0 < by * m → w ≤ by * l + amount * f → w ≤ by * m * (2 ^ 50 + suc n * 2 ^ 80)
+small-next : (n by m amount l f w : ℕ) → l ≤ m * (2 ^ 50 + n * 2 ^ 80) → f ≤ 2 ^ 48 → amount ≤ 2 ^ 32 → 0 < by * m → w ≤ by * l + amount * f
+    → w ≤ by * m * (2 ^ 50 + suc n * 2 ^ 80)
 small-next n by m amount l f w hl hf ha hm hw =
     omega (arith, hw, times-more by l m (2 ^ 50 + n * 2 ^ 80) hl, mul-le-mul ha hf, at_least-once (by * m) hm, grown (by * m) (2 ^ 50) n)
 
@@ -228,30 +243,36 @@ length-add (x ∷ zs) zero z = refl
 length-add (x ∷ zs) (suc n) z = ap suc (length-add zs n z)
 
 -- an amount that is too large makes a multiplier too large
-too_large : (z : ℤ) (by m amount : ℕ) → pos 0 ≤ℤ ((pos by *ℤ z) +ℤ pos (by * m)) → by * m ≤ 2 ^ 31 → 2 ^ 32 < amount → multiplier_fits ((pos by *ℤ z) +ℤ pos amount) ≡ false
+too_large : (z : ℤ) (by m amount : ℕ) → pos 0 ≤ℤ ((pos by *ℤ z) +ℤ pos (by * m)) → by * m ≤ 2 ^ 31 → 2 ^ 32 < amount
+    → multiplier_fits ((pos by *ℤ z) +ℤ pos amount) ≡ false
 too_large z by m amount h p a = many-is (unsigned_abs ((pos by *ℤ z) +ℤ pos amount)) (large (pos by *ℤ z) (by * m) amount h p a)
   where
     large : (y : ℤ) (q amount : ℕ) → pos 0 ≤ℤ (y +ℤ pos q) → q ≤ 2 ^ 31 → 2 ^ 32 < amount → 2 ^ 31 < unsigned_abs (y +ℤ pos amount)
     large y q amount h p a = omega (arith, ints)
 
-pub amount-large : (zs : List ℤ) (by m n amount : ℕ) → AllAbove m zs → n < length zs → by * m ≤ 2 ^ 31 → 2 ^ 32 < amount → multipliers_fit (add_at (all_times by zs) n (pos amount)) ≡ false
+pub amount-large : (zs : List ℤ) (by m n amount : ℕ) → AllAbove m zs → n < length zs → by * m ≤ 2 ^ 31 → 2 ^ 32 < amount
+    → multipliers_fit (add_at (all_times by zs) n (pos amount)) ≡ false
 amount-large [] by m n amount h l p a = absurd (omega arith)
 amount-large (z ∷ zs) by m zero amount h l p a = ap (λ b. b && multipliers_fit (all_times by zs)) (too_large z by m amount (above_one by m z h.0) p a)
-amount-large (z ∷ zs) by m (suc n) amount h l p a = last (multiplier_fits (pos by *ℤ z)) (multipliers_fit (add_at (all_times by zs) n (pos amount))) (amount-large zs by m n amount h.1 (omega arith) p a)
+amount-large (z ∷ zs) by m (suc n) amount h l p a =
+    last (multiplier_fits (pos by *ℤ z)) (multipliers_fit (add_at (all_times by zs) n (pos amount))) (amount-large zs by m n amount h.1 (omega arith) p a)
   where
     last : (a b : Bool) → b ≡ false → (a && b) ≡ false
     last true b e = e
     last false b e = refl
 
 -- an attempt after a step is small too
-pub room-next : (facts : List Fact) (n : ℕ) (a : Attempt) (s : Step) → Room facts n a → AllNormal facts → StepOf facts a s → multipliers_fit (add_at (all_times s.by a.times) s.fact (pos s.amount)) ≡ true → Room facts (suc n) (less_fact facts a s.by s.amount s.fact)
+pub room-next : (facts : List Fact) (n : ℕ) (a : Attempt) (s : Step) → Room facts n a → AllNormal facts → StepOf facts a s
+    → multipliers_fit (add_at (all_times s.by a.times) s.fact (pos s.amount)) ≡ true → Room facts (suc n) (less_fact facts a s.by s.amount s.fact)
 room-next facts n a s r normal step fit =
     let form = fact_form facts s.fact in
     let good = normal-at facts s.fact step.within normal in
     let positive = positive-product s.by a.goal_times step.some r.some in
     record {
-      small = small-next n s.by a.goal_times s.amount (norm a.left) (norm form) _ r.small (normal-norm form good) step.small positive (difference-norm s.by s.amount a.left form);
-      ordered = difference-ordered (scaled (pos s.by) a.left) (scaled (pos s.amount) form) (scaled-ordered (pos s.by) a.left r.ordered) (scaled-ordered (pos s.amount) form (normal-ordered form good));
+      small = small-next n s.by a.goal_times s.amount (norm a.left) (norm form) _ r.small (normal-norm form good) step.small positive
+          (difference-norm s.by s.amount a.left form);
+      ordered = difference-ordered (scaled (pos s.by) a.left) (scaled (pos s.amount) form) (scaled-ordered (pos s.by) a.left r.ordered)
+          (scaled-ordered (pos s.amount) form (normal-ordered form good));
       some = positive;
       most = step.product;
       fit = fit;
@@ -260,17 +281,25 @@ room-next facts n a s r normal step fit =
     }
 
 -- an attempt after a step, put together
-after : (facts : List Fact) (a : Attempt) (s : Step) (left form : Items) (times : List ℤ) → times ≡ add_at (all_times s.by a.times) s.fact (pos s.amount) → left ≡ difference_of (scaled (pos s.by) a.left) (scaled (pos s.amount) form) → form ≡ fact_form facts s.fact
+after : (facts : List Fact) (a : Attempt) (s : Step) (left form : Items) (times : List ℤ) → times ≡ add_at (all_times s.by a.times) s.fact (pos s.amount)
+    → left ≡ difference_of (scaled (pos s.by) a.left) (scaled (pos s.amount) form) → form ≡ fact_form facts s.fact
     → record { left = left; goal_times = s.by * a.goal_times; times = times } ≡ less_fact facts a s.by s.amount s.fact
-after facts a s left form times et el ef = λ k. record { left = (el ∙ ap (λ f. difference_of (scaled (pos s.by) a.left) (scaled (pos s.amount) f)) ef) k; goal_times = s.by * a.goal_times; times = et k }
+after facts a s left form times et el ef =
+    λ k. record { left = (el ∙ ap (λ f. difference_of (scaled (pos s.by) a.left) (scaled (pos s.amount) f)) ef) k; goal_times = s.by * a.goal_times; times =
+    et k }
 
-pub after-is : (facts : List Fact) (a : Attempt) (s : Step) (left form : Items) (times : List ℤ) → StepOf facts a s → times ≡ add_at (all_times s.by a.times) s.fact (pos s.amount) → left ≡ difference_of (scaled (pos s.by) a.left) (scaled (pos s.amount) form) → form ≡ fact_form facts s.fact
+pub after-is : (facts : List Fact) (a : Attempt) (s : Step) (left form : Items) (times : List ℤ) → StepOf facts a s
+    → times ≡ add_at (all_times s.by a.times) s.fact (pos s.amount) → left ≡ difference_of (scaled (pos s.by) a.left) (scaled (pos s.amount) form)
+    → form ≡ fact_form facts s.fact
     → multipliers_fit times ≡ true → Some (record { left = left; goal_times = s.by * a.goal_times; times = times }) ≡ replaced facts a
 after-is facts a s left form times step et el ef fit =
-    ap Some (after facts a s left form times et el ef) ∙ sym (step.is ∙ limited-fit (less_fact facts a s.by s.amount s.fact) step.product (sym (ap multipliers_fit et) ∙ fit))
+    ap Some (after facts a s left form times et el ef)
+        ∙ sym (step.is ∙ limited-fit (less_fact facts a s.by s.amount s.fact) step.product (sym (ap multipliers_fit et) ∙ fit))
 
-pub after-room : (facts : List Fact) (n : ℕ) (a : Attempt) (s : Step) (left form : Items) (times : List ℤ) → StepOf facts a s → times ≡ add_at (all_times s.by a.times) s.fact (pos s.amount) → left ≡ difference_of (scaled (pos s.by) a.left) (scaled (pos s.amount) form)
-    → form ≡ fact_form facts s.fact → multipliers_fit times ≡ true → AllNormal facts → Room facts n a → Room facts (suc n) (record { left = left; goal_times = s.by * a.goal_times; times = times })
+pub after-room : (facts : List Fact) (n : ℕ) (a : Attempt) (s : Step) (left form : Items) (times : List ℤ) → StepOf facts a s
+    → times ≡ add_at (all_times s.by a.times) s.fact (pos s.amount) → left ≡ difference_of (scaled (pos s.by) a.left) (scaled (pos s.amount) form)
+    → form ≡ fact_form facts s.fact → multipliers_fit times ≡ true → AllNormal facts → Room facts n a
+        → Room facts (suc n) (record { left = left; goal_times = s.by * a.goal_times; times = times })
 after-room facts n a s left form times step et el ef fit normal r =
     subst (Room facts (suc n)) (sym (after facts a s left form times et el ef)) (room-next facts n a s r normal step (sym (ap multipliers_fit et) ∙ fit))
 
@@ -279,7 +308,9 @@ more-count m n k h = mul-le-mul (omega arith) (omega arith)
 
 -- room after fewer replacements is room after more
 pub room-more : (facts : List Fact) (n k : ℕ) (a : Attempt) → n ≤ k → Room facts n a → Room facts k a
-room-more facts n k a h r = record { small = omega (arith, r.small, more-count a.goal_times n k h); ordered = r.ordered; some = r.some; most = r.most; fit = r.fit; above = r.above; each = r.each }
+room-more facts n k a h r = record
+    { small = omega (arith, r.small, more-count a.goal_times n k h); ordered = r.ordered; some = r.some; most = r.most; fit = r.fit; above = r.above; each =
+    r.each }
 
 pub length-none : (xs : List Fact) → length (no_times xs) ≡ length xs
 length-none [] = refl

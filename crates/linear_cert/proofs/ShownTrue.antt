@@ -24,7 +24,8 @@ good-normal : (s r : List ℕ) (xs : List Fact) → AllGood s r xs → AllNormal
 good-normal s r [] h = tt
 good-normal s r (x ∷ xs) h = (h.0.0, good-normal s r xs h.1)
 
-default-true : (s r : List ℕ) (facts : List Fact) (goal : Items) → AllTrue s r facts → (normal : AllNormal facts) (n : is_normal goal ≡ true) → (o : Option (List Line)) → Show facts goal normal n o → is_some o ≡ true → pos 0 ≤ℤ items_value s r goal
+default-true : (s r : List ℕ) (facts : List Fact) (goal : Items) → AllTrue s r facts → (normal : AllNormal facts) (n : is_normal goal ≡ true)
+    → (o : Option (List Line)) → Show facts goal normal n o → is_some o ≡ true → pos 0 ≤ℤ items_value s r goal
 default-true s r facts goal h normal n None m e = absurd (cc)
 default-true s r facts goal h normal n (Some ls) m e = lines-true s r facts goal h ls m
 

@@ -26,11 +26,13 @@ module _ (w : Atom → ℤ) where
   weight [] = pos 0
   weight (t ∷ ts) = (t.coefficient *ℤ w t.atom) +ℤ weight ts
 
-  item_if-weight : (z : Bool) (t : Item Atom) (rest : List (Item Atom)) → (z ≡ true → t.coefficient ≡ pos 0) → weight (item_if z t rest) ≡ (t.coefficient *ℤ w t.atom) +ℤ weight rest
+  item_if-weight : (z : Bool) (t : Item Atom) (rest : List (Item Atom)) → (z ≡ true → t.coefficient ≡ pos 0)
+      → weight (item_if z t rest) ≡ (t.coefficient *ℤ w t.atom) +ℤ weight rest
   item_if-weight true t rest h = omega (arith, ints, ap (λ c. c *ℤ w t.atom) (h refl), zero-*ℤ (w t.atom))
   item_if-weight false t rest h = refl
 
-  combined-weight : (a b : Item Atom) (rest : List (Item Atom)) → a.atom ≡ b.atom → weight (combined a b rest) ≡ ((a.coefficient *ℤ w a.atom) +ℤ (b.coefficient *ℤ w b.atom)) +ℤ weight rest
+  combined-weight : (a b : Item Atom) (rest : List (Item Atom)) → a.atom ≡ b.atom
+      → weight (combined a b rest) ≡ ((a.coefficient *ℤ w a.atom) +ℤ (b.coefficient *ℤ w b.atom)) +ℤ weight rest
   combined-weight a b rest same =
       item_if-weight _ _ rest (int_eq-zero (a.coefficient +ℤ b.coefficient))
       ∙ ap (λ z. z +ℤ weight rest) (*ℤ_distrib a.coefficient b.coefficient (w a.atom) ∙ ap (λ at. (a.coefficient *ℤ w a.atom) +ℤ (b.coefficient *ℤ w at)) same)
@@ -41,7 +43,8 @@ module _ (w : Atom → ℤ) where
   onto-weight a as' (b ∷ bs) h = by_order (atom_order a.atom b.atom) refl (onto-weight a as' bs h)
     where
       by_order : (o : Ordering) → atom_order a.atom b.atom ≡ o → weight (onto a (merged as') bs) ≡ ((a.coefficient *ℤ w a.atom) +ℤ weight as') +ℤ weight bs
-          → weight (onto_by o a (merged as') b bs (onto a (merged as') bs)) ≡ ((a.coefficient *ℤ w a.atom) +ℤ weight as') +ℤ ((b.coefficient *ℤ w b.atom) +ℤ weight bs)
+          → weight (onto_by o a (merged as') b bs (onto a (merged as') bs)) ≡ ((a.coefficient *ℤ w a.atom) +ℤ weight as')
+              +ℤ ((b.coefficient *ℤ w b.atom) +ℤ weight bs)
       by_order Less e later = omega (arith, ints, h (b ∷ bs))
       by_order Greater e later = omega (arith, ints, later)
       by_order Equal e later = omega (arith, ints, h bs, combined-weight a b (merged as' bs) (atom_order-Equal a.atom b.atom e))

@@ -11,7 +11,8 @@ and_then-assoc (Stuck c) f g = refl
 pub apply-then_follow : (xs ys : List Action) (m : Memory) → apply (then_follow xs ys) m ≡ and_then (apply xs m) (apply ys)
 apply-then_follow [] ys m = refl
 apply-then_follow (Tick ∷ xs) ys m = apply-then_follow xs ys m
-apply-then_follow (Store o b t i ∷ xs) ys m = ap (and_then (apply_one (Store o b t i) m)) (λ j n. apply-then_follow xs ys n j) ∙ sym (and_then-assoc (apply_one (Store o b t i) m) (apply xs) (apply ys))
+apply-then_follow (Store o b t i ∷ xs) ys m = ap (and_then (apply_one (Store o b t i) m)) (λ j n. apply-then_follow xs ys n j)
+    ∙ sym (and_then-assoc (apply_one (Store o b t i) m) (apply xs) (apply ys))
 apply-then_follow (Trip k ls ∷ xs) ys m = refl
 
 -- a list that ends, and what follows
@@ -26,4 +27,5 @@ then_follow-assoc (Trip k ls ∷ xs) ys zs = refl
 
 pub acts_all-append : (xs ys : List Stmt) (s r : List ℕ) → acts_all (xs ++ ys) s r ≡ then_follow (acts_all xs s r) (acts_all ys s r)
 acts_all-append [] ys s r = refl
-acts_all-append (x ∷ xs) ys s r = ap (then_follow (acts x s r)) (acts_all-append xs ys s r) ∙ sym (then_follow-assoc (acts x s r) (acts_all xs s r) (acts_all ys s r))
+acts_all-append (x ∷ xs) ys s r = ap (then_follow (acts x s r)) (acts_all-append xs ys s r)
+    ∙ sym (then_follow-assoc (acts x s r) (acts_all xs s r) (acts_all ys s r))

@@ -10,13 +10,15 @@ use Rattle.loop_lang.specs.declared.word.Wexp as word
 use Rattle.loop_lang.specs.declared.stmt.Prog.{Prog}
 use Rattle.loop_lang.specs.declared.stmt.Stmt.{Stmt}
 use Rattle.loop_lang.specs.declared.stmt.Stmt.TheVariants.{Seq, For, If, Put, AddTo, Zero}
-use Rattle.loop_lang.specs.Syntax.{index_sum, index_difference, index_product, index_quotient, index_remainder, index_larger, word_sum, word_difference, word_product, word_choice}
+use Rattle.loop_lang.specs.Syntax.{index_sum, index_difference, index_product, index_quotient, index_remainder, index_larger, word_sum, word_difference}
+use Rattle.loop_lang.specs.Syntax.{word_product, word_choice}
 use Rattle.loop_lang.specs.Reckoning.{Overflow, NegativeDividend, Value, Fails, checked, reckon, Holds, IsFalse, Breaks, tested}
 use Rattle.loop_lang.specs.Actions.{Tick, Store, Trip, Puts, Adds, Word, At, acts, program_acts}
 use Rattle.loop_lang.specs.Memory.{Memory, Ends, Stuck, Outside, Met, apply}
 use Rattle.loop_lang.specs.Run.{IsMemoryOf, run, lengths_at, counts_of, stores_of}
 use Rattle.loop_lang.specs.Form.{lengths_formed, stmt_formed, word_formed}
-use Rattle.loop_lang.proofs.Statements.{acts-seq, acts-for, acts-if, acts-put, acts-add_to, acts-zero, all_formed, formed-seq, formed-for, formed-put, formed-add_to, formed-zero}
+use Rattle.loop_lang.proofs.Statements.{acts-seq, acts-for, acts-if, acts-put, acts-add_to, acts-zero, all_formed, formed-seq, formed-for, formed-put}
+use Rattle.loop_lang.proofs.Statements.{formed-add_to, formed-zero}
 
 ruleset row_laws = (acts-seq, acts-for, acts-if, acts-put, acts-add_to, acts-zero)
 
@@ -73,7 +75,8 @@ guarded_let = record {
 
 let_acts : program_acts guarded_let []
     ≡ Store Puts (Output 0) (Word 0) (pos 0) ∷ Store Puts (Output 0) (Word 0) (pos 1)
-    ∷ Tick ∷ Store Puts (Scratch 0) (Word 0) (pos 0) ∷ Tick ∷ Store Puts (Scratch 0) (At (Input 0) (pos 0)) (pos 0) ∷ Store Puts (Output 0) (At (Scratch 0) (pos 0)) (pos 0)
+    ∷ Tick ∷ Store Puts (Scratch 0) (Word 0) (pos 0) ∷ Tick ∷ Store Puts (Scratch 0) (At (Input 0) (pos 0)) (pos 0)
+        ∷ Store Puts (Output 0) (At (Scratch 0) (pos 0)) (pos 0)
     ∷ Tick ∷ Store Puts (Scratch 0) (Word 0) (pos 0) ∷ Tick ∷ Store Puts (Output 0) (At (Scratch 0) (pos 0)) (pos 1) ∷ []
 let_acts = simp row_laws
 
@@ -84,14 +87,17 @@ let_counts : counts_of (program_acts guarded_let []) ≡ record { steps = 11; st
 let_counts = ap counts_of let_acts
 
 -- a store below the start, a load behind the end
-before_start : (x y : ℕ) → apply (acts (Put (Output 0) (index_difference (Loop 0) (Lit (pos 1))) (word.Lit 5)) (1 ∷ []) (0 ∷ [])) (memory (x ∷ []) (y ∷ []) []) ≡ Stuck (Outside (Output 0) (negsuc 0))
+before_start : (x y : ℕ) → apply (acts (Put (Output 0) (index_difference (Loop 0) (Lit (pos 1))) (word.Lit 5)) (1 ∷ []) (0 ∷ [])) (memory (x ∷ []) (y ∷ []) [])
+    ≡ Stuck (Outside (Output 0) (negsuc 0))
 before_start x y = simp row_laws
 
-behind_end : (x y : ℕ) → apply (acts (Put (Output 0) (Loop 0) (Load (Input 0) (Size 0))) (1 ∷ []) (0 ∷ [])) (memory (x ∷ []) (y ∷ []) []) ≡ Stuck (Outside (Input 0) (pos 1))
+behind_end : (x y : ℕ) → apply (acts (Put (Output 0) (Loop 0) (Load (Input 0) (Size 0))) (1 ∷ []) (0 ∷ [])) (memory (x ∷ []) (y ∷ []) []) ≡ Stuck
+    (Outside (Input 0) (pos 1))
 behind_end x y = simp row_laws
 
 -- the word before the place
-word_first : (x y : ℕ) → apply (acts (Put (Output 0) (Lit (pos 9)) (Load (Input 0) (Lit (pos 8)))) [] []) (memory (x ∷ []) (y ∷ []) []) ≡ Stuck (Outside (Input 0) (pos 8))
+word_first : (x y : ℕ) → apply (acts (Put (Output 0) (Lit (pos 9)) (Load (Input 0) (Lit (pos 8)))) [] []) (memory (x ∷ []) (y ∷ []) []) ≡ Stuck
+    (Outside (Input 0) (pos 8))
 word_first x y = simp row_laws
 
 -- 2^63 - 1, and an index that leaves 64 bits
@@ -116,11 +122,13 @@ load_first : (x : ℕ) → apply (acts (Put (Output 0) beyond two_loads) [] []) 
 load_first x = simp row_laws
 
 -- overflow in the index of the second load, after the first load alone
-load_overflow : acts (AddTo (Output 0) (Lit (pos 0)) (word_product (Load (Input 0) (Lit (pos 0))) (word_sum (Load (Input 0) beyond) (Load (Input 0) (Lit (pos 2)))))) [] []
+load_overflow : acts (AddTo (Output 0) (Lit (pos 0))
+    (word_product (Load (Input 0) (Lit (pos 0))) (word_sum (Load (Input 0) beyond) (Load (Input 0) (Lit (pos 2)))))) [] []
     ≡ Tick ∷ Trip Overflow (record { buffer = Input 0; index = pos 0 } ∷ []) ∷ []
 load_overflow = simp row_laws
 
-negative_dividend : acts (Put (Output 0) (index_quotient (index_difference (Lit (pos 0)) (Size 0)) 2) (word.Lit 5)) (1 ∷ []) [] ≡ Tick ∷ Trip NegativeDividend [] ∷ []
+negative_dividend : acts (Put (Output 0) (index_quotient (index_difference (Lit (pos 0)) (Size 0)) 2) (word.Lit 5)) (1 ∷ []) [] ≡ Tick
+    ∷ Trip NegativeDividend [] ∷ []
 negative_dividend = simp row_laws
 
 -- nothing follows a trouble, and an if ticks once and before its tests
@@ -130,7 +138,8 @@ stops = simp row_laws
 if_false : acts (If (equal (Lit (pos 1)) (Lit (pos 2)) ∷ []) (Put (Output 0) (Lit (pos 0)) (word.Lit 5))) [] [] ≡ Tick ∷ []
 if_false = simp row_laws
 
-if_true : acts (If (equal (Lit (pos 2)) (Lit (pos 2)) ∷ []) (Put (Output 0) (Lit (pos 0)) (word.Lit 5))) [] [] ≡ Tick ∷ Store Puts (Output 0) (Word 5) (pos 0) ∷ []
+if_true : acts (If (equal (Lit (pos 2)) (Lit (pos 2)) ∷ []) (Put (Output 0) (Lit (pos 0)) (word.Lit 5))) [] [] ≡ Tick ∷ Store Puts (Output 0) (Word 5) (pos 0)
+    ∷ []
 if_true = simp row_laws
 
 -- no test after one that is false
@@ -141,7 +150,8 @@ tests_break : tested (equal (Lit (pos 1)) (Lit (pos 1)) ∷ equal beyond beyond 
 tests_break = refl
 
 -- the side that is not chosen is not computed
-chosen_side : acts (Put (Output 0) (Lit (pos 0)) (word_choice (equal (Lit (pos 1)) (Lit (pos 2)) ∷ []) (Load (Input 0) beyond) (word.Lit 5))) [] [] ≡ Store Puts (Output 0) (Word 5) (pos 0) ∷ []
+chosen_side : acts (Put (Output 0) (Lit (pos 0)) (word_choice (equal (Lit (pos 1)) (Lit (pos 2)) ∷ []) (Load (Input 0) beyond) (word.Lit 5))) [] [] ≡ Store Puts
+    (Output 0) (Word 5) (pos 0) ∷ []
 chosen_side = simp row_laws
 
 -- a fill of a negative length, one that leaves 64 bits at its second word, and troubles of its own place and length
@@ -166,7 +176,8 @@ bound_overflow = simp row_laws
 
 -- loop variables are counted from the outside: for i0 < 2 { for i1 < 2 { b0[i1 + 2 * i0] = (word)(i0 - i1) } }
 nested : (w x y z : ℕ) → apply (acts (For (Lit (pos 2)) true (For (Lit (pos 2)) false
-    (Put (Output 0) (index_sum (Loop 1) (index_product (Lit (pos 2)) (Loop 0))) (OfIndex (index_difference (Loop 0) (Loop 1)))))) [] []) (memory [] (w ∷ x ∷ y ∷ z ∷ []) [])
+    (Put (Output 0) (index_sum (Loop 1) (index_product (Lit (pos 2)) (Loop 0))) (OfIndex (index_difference (Loop 0) (Loop 1)))))) [] [])
+        (memory [] (w ∷ x ∷ y ∷ z ∷ []) [])
     ≡ Ends (memory [] (0 ∷ 18446744073709551615 ∷ 1 ∷ 0 ∷ []) [])
 nested w x y z = simp row_laws
 
@@ -174,10 +185,12 @@ nested w x y z = simp row_laws
 added : apply (acts (AddTo (Output 0) (Lit (pos 0)) (word.Lit 7)) [] []) (memory [] (18446744073709551615 ∷ []) []) ≡ Ends (memory [] (6 ∷ []) [])
 added = simp row_laws
 
-subtracted : apply (acts (Put (Output 0) (Lit (pos 0)) (word_difference (word.Lit 1) (word.Lit 2))) [] []) (memory [] (4 ∷ []) []) ≡ Ends (memory [] (18446744073709551615 ∷ []) [])
+subtracted : apply (acts (Put (Output 0) (Lit (pos 0)) (word_difference (word.Lit 1) (word.Lit 2))) [] []) (memory [] (4 ∷ []) []) ≡ Ends
+    (memory [] (18446744073709551615 ∷ []) [])
 subtracted = simp row_laws
 
-multiplied : apply (acts (Put (Output 0) (Lit (pos 0)) (word_product (word.Lit 9223372036854775809) (word.Lit 2))) [] []) (memory [] (4 ∷ []) []) ≡ Ends (memory [] (2 ∷ []) [])
+multiplied : apply (acts (Put (Output 0) (Lit (pos 0)) (word_product (word.Lit 9223372036854775809) (word.Lit 2))) [] []) (memory [] (4 ∷ []) []) ≡ Ends
+    (memory [] (2 ∷ []) [])
 multiplied = simp row_laws
 
 -- from -2^63 to 2^63 - 1
@@ -219,7 +232,8 @@ marked_twice = simp formed_laws
 
 -- the four orders and equality, below, at and above
 comparisons : tested (record { left = Lit (pos 1); rel = Lt; right = Lit (pos 2) } ∷ record { left = Lit (pos 2); rel = Le; right = Lit (pos 2) }
-    ∷ record { left = Lit (pos 2); rel = Gt; right = Lit (pos 1) } ∷ record { left = Lit (pos 2); rel = Ge; right = Lit (pos 2) } ∷ equal (Lit (pos 2)) (Lit (pos 2)) ∷ []) [] [] ≡ Holds
+    ∷ record { left = Lit (pos 2); rel = Gt; right = Lit (pos 1) } ∷ record { left = Lit (pos 2); rel = Ge; right = Lit (pos 2) }
+        ∷ equal (Lit (pos 2)) (Lit (pos 2)) ∷ []) [] [] ≡ Holds
 comparisons = refl
 
 not_less : tested (record { left = Lit (pos 2); rel = Lt; right = Lit (pos 2) } ∷ []) [] [] ≡ IsFalse

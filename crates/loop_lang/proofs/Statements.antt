@@ -46,7 +46,9 @@ module _ (p : Prog) where
   pub formed-seq : (xs : List Stmt) → stmt_formed p (Seq xs) ≡ all_formed xs
   formed-seq xs = fold-seq (Formed p) (formed_step p) xs
 
-  pub formed-for : (n : Iexp) (marked : Bool) (e : Stmt) (d : ℕ) (inside : Bool) → stmt_formed p (For n marked e) d inside ≡ (index_formed p.sizes false n d && (mark_formed p marked inside && stmt_formed p e (d + 1) (either p marked inside)))
+  pub formed-for : (n : Iexp) (marked : Bool) (e : Stmt) (d : ℕ) (inside : Bool)
+      → stmt_formed p (For n marked e) d inside ≡
+      (index_formed p.sizes false n d && (mark_formed p marked inside && stmt_formed p e (d + 1) (either p marked inside)))
   formed-for n marked e d inside = λ i. fold-for (Formed p) (formed_step p) n marked e i d inside
 
   pub formed-put : (b : Buf) (i : Iexp) (w : Wexp) (d : ℕ) (inside : Bool) → stmt_formed p (Put b i w) d inside ≡ store_formed p b i w d
@@ -55,5 +57,6 @@ module _ (p : Prog) where
   pub formed-add_to : (b : Buf) (i : Iexp) (w : Wexp) (d : ℕ) (inside : Bool) → stmt_formed p (AddTo b i w) d inside ≡ store_formed p b i w d
   formed-add_to b i w d inside = λ j. fold-add_to (Formed p) (formed_step p) b i w j d inside
 
-  pub formed-zero : (b : Buf) (i n : Iexp) (d : ℕ) (inside : Bool) → stmt_formed p (Zero b i n) d inside ≡ (target_there p b && (index_formed p.sizes false i d && index_formed p.sizes false n d))
+  pub formed-zero : (b : Buf) (i n : Iexp) (d : ℕ) (inside : Bool)
+      → stmt_formed p (Zero b i n) d inside ≡ (target_there p b && (index_formed p.sizes false i d && index_formed p.sizes false n d))
   formed-zero b i n d inside = λ j. fold-zero (Formed p) (formed_step p) b i n j d inside

@@ -47,5 +47,6 @@ module _ (A : Type 0) (step : Wexp-F A → A) where
   pub fold-word_product : (a : Wexp) (b : Wexp) → fold-Wexp A step (word_product a b) ≡ step (Wexp-F.Mul (fold-Wexp A step a) (fold-Wexp A step b))
   fold-word_product a b = ap (fold-Wexp A step) (sym (variant.rolls-Mul a b ∙ word_product-is a b)) ∙ fold-roll-Wexp A step (Wexp-F.Mul a b)
 
-  pub fold-word_choice : (cs : List Test) (a : Wexp) (b : Wexp) → fold-Wexp A step (word_choice cs a b) ≡ step (Wexp-F.Choose cs (fold-Wexp A step a) (fold-Wexp A step b))
+  pub fold-word_choice : (cs : List Test) (a : Wexp) (b : Wexp)
+      → fold-Wexp A step (word_choice cs a b) ≡ step (Wexp-F.Choose cs (fold-Wexp A step a) (fold-Wexp A step b))
   fold-word_choice cs a b = ap (fold-Wexp A step) (sym (variant.rolls-Choose cs a b ∙ word_choice-is cs a b)) ∙ fold-roll-Wexp A step (Wexp-F.Choose cs a b)

@@ -10,7 +10,8 @@ use Rattle.loop_lang.specs.declared.stmt.Stmt.TheOpen.{Stmt-F}
 use Rattle.loop_lang.specs.declared.stmt.Stmt.TheFolds.{fold-Stmt}
 use Rattle.loop_lang.specs.declared.stmt.Stmt.{Stmt}
 use Rattle.loop_lang.specs.declared.stmt.Prog.{Prog}
-use Rattle.loop_lang.specs.Syntax.{index_sum, index_difference, index_product, index_quotient, index_remainder, index_larger, word_sum, word_difference, word_product, word_choice}
+use Rattle.loop_lang.specs.Syntax.{index_sum, index_difference, index_product, index_quotient, index_remainder, index_larger, word_sum, word_difference}
+use Rattle.loop_lang.specs.Syntax.{word_product, word_choice}
 
 -- a literal is 0 or more
 abbrev pub is_literal : ℤ → Bool

@@ -1,5 +1,6 @@
 -- How the words of tensors are added into a buffer.
-use Rattle.std.proofs.Common.{◌≡◌, ℕ, zero, suc, ◌+◌, ◌%◌, ◌^◌, ◌<◌, ◌≤◌, List, [], ◌∷◌, length, get_or, set, Option, Some, None, refl, sym, ap, ◌∙◌, subst, ⊎_elim, arith, length-set, get_or-set_same, get_or-set_other}
+use Rattle.std.proofs.Common.{◌≡◌, ℕ, zero, suc, ◌+◌, ◌%◌, ◌^◌, ◌<◌, ◌≤◌, List, [], ◌∷◌, length, get_or, set, Option, Some, None, refl, sym, ap, ◌∙◌, subst}
+use Rattle.std.proofs.Common.{⊎_elim, arith, length-set, get_or-set_same, get_or-set_other}
 use Rattle.std.proofs.lemmas.List.{set_past}
 use Rattle.std.proofs.lemmas.Bool.{cases_lt, cases_eq}
 use Rattle.std.proofs.Math.Nat.{mod-lt}
@@ -39,7 +40,8 @@ Words-add_at (Some p) w ws h k =
     ⊎_elim
     (λ (e : k ≡ p).
     ⊎_elim
-    (λ (l : p < length ws). subst (λ n. n < 2 ^ 64) (sym (ap (λ j. get_or (set ws p x) j 0) e ∙ get_or-set_same ws p x 0 l)) (mod-lt (get_or ws p 0 + w) (omega arith)))
+    (λ (l : p < length ws). subst (λ n. n < 2 ^ 64) (sym (ap (λ j. get_or (set ws p x) j 0) e ∙ get_or-set_same ws p x 0 l))
+        (mod-lt (get_or ws p 0 + w) (omega arith)))
     (λ (l : length ws ≤ p). subst (λ xs. get_or xs k 0 < 2 ^ 64) (sym (set_past ws p x l)) (h k))
     (cases_lt p (length ws)))
     (λ (ne : k ≡ p → ⊥). subst (λ n. n < 2 ^ 64) (sym (get_or-set_other ws p k x 0 ne)) (h k))
@@ -55,11 +57,13 @@ other_at : (o : Option ℕ) (w : ℕ) (ws : List ℕ) (p : ℕ) → (o ≡ Some 
 other_at None w ws p h = refl
 other_at (Some q) w ws p h = get_or-set_other ws q p _ 0 (λ e. h (ap Some (sym e)))
 
-later_off : (n : ℕ) (ds : List ℕ) (f : Placing) (p : ℕ) → ((ix : List ℕ) → Within (suc n ∷ ds) ix → f ix ≡ Some p → ⊥) → (ix : List ℕ) → Within (n ∷ ds) ix → later f ix ≡ Some p → ⊥
+later_off : (n : ℕ) (ds : List ℕ) (f : Placing) (p : ℕ) → ((ix : List ℕ) → Within (suc n ∷ ds) ix → f ix ≡ Some p → ⊥) → (ix : List ℕ) → Within (n ∷ ds) ix
+    → later f ix ≡ Some p → ⊥
 later_off n ds f p off [] w e = w
 later_off n ds f p off (i ∷ ix) w e = off (suc i ∷ ix) (omega (arith, w.0), w.1) e
 
-pub scatter_other : (t : Tensor) (ds : List ℕ) (f : Placing) (ws : List ℕ) (p : ℕ) → HasShape ds t → ((ix : List ℕ) → Within ds ix → f ix ≡ Some p → ⊥) → get_or (scatter t f ws) p 0 ≡ get_or ws p 0
+pub scatter_other : (t : Tensor) (ds : List ℕ) (f : Placing) (ws : List ℕ) (p : ℕ) → HasShape ds t → ((ix : List ℕ) → Within ds ix → f ix ≡ Some p → ⊥)
+    → get_or (scatter t f ws) p 0 ≡ get_or ws p 0
 scatter_other (Word w) [] f ws p h off = other_at (f []) w ws p (off [] tt)
 scatter_other (Word w) (zero ∷ ds) f ws p h off = absurd h
 scatter_other (Word w) (suc n ∷ ds) f ws p h off = absurd h
@@ -75,7 +79,8 @@ abbrev pub scatter_turns : ℕ → ℕ → (ℕ → Tensor) → Placing → List
 scatter_turns i zero g f ws = ws
 scatter_turns i (suc n) g f ws = scatter_turns (i + 1) n g f (scatter (g i) (under i f) ws)
 
-pub scatter-rows : (n i : ℕ) (g h : ℕ → Tensor) (f k : Placing) (ws : List ℕ) → ((j : ℕ) → h j ≡ g (i + j)) → ((j : ℕ) (ix : List ℕ) → k (j ∷ ix) ≡ f ((i + j) ∷ ix)) → scatter (from_rows (tabulate n h)) k ws ≡ scatter_turns i n g f ws
+pub scatter-rows : (n i : ℕ) (g h : ℕ → Tensor) (f k : Placing) (ws : List ℕ) → ((j : ℕ) → h j ≡ g (i + j))
+    → ((j : ℕ) (ix : List ℕ) → k (j ∷ ix) ≡ f ((i + j) ∷ ix)) → scatter (from_rows (tabulate n h)) k ws ≡ scatter_turns i n g f ws
 scatter-rows zero i g h f k ws a b = refl
 scatter-rows (suc n) i g h f k ws a b =
     let z : i + 0 ≡ i = omega arith in

@@ -29,12 +29,15 @@ calm_after (Out j) T k m n ws h p = absurd h
 calm_after (Part b q) T k m n ws h p = read_agree q b (region n) (region m) (λ i l u. p.outside i (omega (arith, h.0)) (beside T b q i l u h.1))
 
 -- a word of an area
-pub area_read : (A : Area) (T : Area) (k p : ℕ) (m : Memory) → Calm A T k → k ≤ length (region m) → p < length (part m A) → load (words m (buffer_of A)) (buffer_of A) (pos (base A + p)) ≡ Found (get_or (part m A) p 0)
+pub area_read : (A : Area) (T : Area) (k p : ℕ) (m : Memory) → Calm A T k → k ≤ length (region m) → p < length (part m A)
+    → load (words m (buffer_of A)) (buffer_of A) (pos (base A + p)) ≡ Found (get_or (part m A) p 0)
 area_read (Out j) T k p m c h l = absurd c
 area_read (In j) T k p m c h l =
     let z : 0 + p ≡ p = omega arith in
-    ap (λ q. load (words m (Input j)) (Input j) (pos q)) z ∙ ap (λ v. if v then Found (get_or (part m (In j)) p 0) else Lost (Outside (Input j) (pos p))) (lt-ltb p (length (part m (In j))) l)
+    ap (λ q. load (words m (Input j)) (Input j) (pos q)) z
+        ∙ ap (λ v. if v then Found (get_or (part m (In j)) p 0) else Lost (Outside (Input j) (pos p))) (lt-ltb p (length (part m (In j))) l)
 area_read (Part b n) T k p m c h l =
     let in' : p < n = omega (arith, length-read n b (region m)) in
     let there : b + p < length (region m) = omega (arith, c.0) in
-    ap (λ v. if v then Found (get_or (region m) (b + p) 0) else Lost (Outside (Scratch 0) (pos (b + p)))) (lt-ltb (b + p) (length (region m)) there) ∙ ap Found (sym (read_at n b p (region m) in'))
+    ap (λ v. if v then Found (get_or (region m) (b + p) 0) else Lost (Outside (Scratch 0) (pos (b + p)))) (lt-ltb (b + p) (length (region m)) there)
+        ∙ ap Found (sym (read_at n b p (region m) in'))

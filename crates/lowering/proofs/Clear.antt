@@ -41,7 +41,8 @@ pub clear_row : (o : Mode) (n : ℕ) (ds : List ℕ) (f : Placing) (j : ℕ) (ws
 clear_row Adds n ds f j ws l h = tt
 clear_row Puts n ds f j ws l h = λ ix p w e. h j ix p (omega arith) l w e
 
-pub clear_next : (o : Mode) (n : ℕ) (ds : List ℕ) (f : Placing) (j : ℕ) (ws : List ℕ) (t : Tensor) → Injective (n ∷ ds) f → HasShape ds t → j < n → ClearFrom o n ds f j ws → ClearFrom o n ds f (j + 1) (scatter t (under j f) ws)
+pub clear_next : (o : Mode) (n : ℕ) (ds : List ℕ) (f : Placing) (j : ℕ) (ws : List ℕ) (t : Tensor) → Injective (n ∷ ds) f → HasShape ds t → j < n
+    → ClearFrom o n ds f j ws → ClearFrom o n ds f (j + 1) (scatter t (under j f) ws)
 clear_next Adds n ds f j ws t inj shape l c = tt
 clear_next Puts n ds f j ws t inj shape l c = λ i ix p a b w e.
     let other : (jx : List ℕ) → Within ds jx → f (j ∷ jx) ≡ Some p → ⊥ =

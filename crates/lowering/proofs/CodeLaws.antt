@@ -19,7 +19,8 @@ use Rattle.lowering.specs.declared.reads.Read.{Read}
 use Rattle.lowering.specs.Lowered.{Site, nowhere, place_tree, indexed, loaded, of_read, Parts, parts_step, parts_of, read_of, word_loops, sites_from}
 use Rattle.lowering.proofs.Plain.{sum-zero, tree-zero}
 
-site_found : (k : ℕ) (ds : List InputDecl) (q : ℕ) (d : InputDecl) → slice_get ds q ≡ Some d → get_or (sites_from k ds) q nowhere ≡ record { buffer = Input (k + q); offset = literal_form (pos 0); extents = d.extents }
+site_found : (k : ℕ) (ds : List InputDecl) (q : ℕ) (d : InputDecl) → slice_get ds q ≡ Some d
+    → get_or (sites_from k ds) q nowhere ≡ record { buffer = Input (k + q); offset = literal_form (pos 0); extents = d.extents }
 site_found k [] q d e = absurd (cc)
 site_found k (x ∷ ds) zero d e =
     let z : k ≡ k + 0 = omega arith in
@@ -35,17 +36,20 @@ site_missing k (x ∷ ds) zero e = absurd (cc)
 site_missing k (x ∷ ds) (suc q) e = site_missing (k + 1) ds q e
 
 -- a place at offset 0
-pub place-plain : (loops : ℕ) (site : Site) (xs : List Items) → site.offset ≡ literal_form (pos 0) → place_tree loops site xs ≡ index_tree loops (row_place site.extents xs)
+pub place-plain : (loops : ℕ) (site : Site) (xs : List Items) → site.offset ≡ literal_form (pos 0)
+    → place_tree loops site xs ≡ index_tree loops (row_place site.extents xs)
 place-plain loops site xs e = ap (λ o. index_tree loops (sum_of (row_place site.extents xs) o)) e ∙ ap (index_tree loops) (sum-zero (row_place site.extents xs))
 
-pub loaded-found : (ds : List InputDecl) (r : Read) (loops : ℕ) (d : InputDecl) → slice_get ds r.var ≡ Some d → loaded r (sites_from 0 ds) loops ≡ Load (Input r.var) (index_tree loops (row_place d.extents r.indices))
+pub loaded-found : (ds : List InputDecl) (r : Read) (loops : ℕ) (d : InputDecl) → slice_get ds r.var ≡ Some d
+    → loaded r (sites_from 0 ds) loops ≡ Load (Input r.var) (index_tree loops (row_place d.extents r.indices))
 loaded-found ds r loops d e =
     let z : 0 + r.var ≡ r.var = omega arith in
     let site : Site = record { buffer = Input (0 + r.var); offset = literal_form (pos 0); extents = d.extents } in
     ap (λ b. Load b.buffer (place_tree loops b r.indices)) (site_found 0 ds r.var d e)
     ∙ (λ i. Load (Input (z i)) (place-plain loops site r.indices refl i))
 
-pub loaded-missing : (ds : List InputDecl) (r : Read) (loops : ℕ) → slice_get ds r.var ≡ None → loaded r (sites_from 0 ds) loops ≡ Load (Output 0) (index.Lit (pos 0))
+pub loaded-missing : (ds : List InputDecl) (r : Read) (loops : ℕ) → slice_get ds r.var ≡ None
+    → loaded r (sites_from 0 ds) loops ≡ Load (Output 0) (index.Lit (pos 0))
 loaded-missing ds r loops e =
     ap (λ b. Load b.buffer (place_tree loops b r.indices)) (site_missing 0 ds r.var e)
     ∙ ap (Load (Output 0)) (place-plain loops nowhere r.indices refl ∙ tree-zero loops)

@@ -1,5 +1,6 @@
 -- What lists of actions do to the words of one tensor, while scratch from some word on is free.
-use Rattle.std.proofs.Common.{◌≡◌, ℕ, zero, suc, ◌+◌, ◌^◌, ◌<◌, ◌≤◌, List, [], ◌∷◌, ◌++◌, length, get_or, set, take, replicate, pos, ◌+ℤ◌, ◌⊎◌, inl, if◌then◌else◌, refl, sym, ap, ◌∙◌, subst, ⊎_elim, arith, append_assoc, length-set, get_or-set_same, get_or-set_other}
+use Rattle.std.proofs.Common.{◌≡◌, ℕ, zero, suc, ◌+◌, ◌^◌, ◌<◌, ◌≤◌, List, [], ◌∷◌, ◌++◌, length, get_or, set, take, replicate, pos, ◌+ℤ◌, ◌⊎◌, inl}
+use Rattle.std.proofs.Common.{if◌then◌else◌, refl, sym, ap, ◌∙◌, subst, ⊎_elim, arith, append_assoc, length-set, get_or-set_same, get_or-set_other}
 use Rattle.std.proofs.lemmas.Bool.{lt-ltb}
 use Rattle.std.proofs.lemmas.List.{append-nil, set-set, set-get_or, take_all, take_more_set}
 use Rattle.term_tree.specs.Tensors.{Tensor}
@@ -61,7 +62,8 @@ read_at (suc n) p (suc j) ws h = let e : p + 1 + j ≡ p + suc j = omega arith i
 pub read_agree : (n p : ℕ) (v w : List ℕ) → ((j : ℕ) → p ≤ j → j < p + n → get_or v j 0 ≡ get_or w j 0) → read p n v ≡ read p n w
 read_agree zero p v w h = refl
 read_agree (suc n) p v w h =
-    ap (λ x. x ∷ read (p + 1) n v) (h p (omega arith) (omega arith)) ∙ ap (λ xs. get_or w p 0 ∷ xs) (read_agree n (p + 1) v w (λ j a b. h j (omega arith) (omega arith)))
+    ap (λ x. x ∷ read (p + 1) n v) (h p (omega arith) (omega arith))
+        ∙ ap (λ xs. get_or w p 0 ∷ xs) (read_agree n (p + 1) v w (λ j a b. h j (omega arith) (omega arith)))
 
 pub read_set : (n p j x : ℕ) (ws : List ℕ) → j < n → p + n ≤ length ws → read p n (set ws (p + j) x) ≡ set (read p n ws) j x
 read_set zero p j x ws h l = absurd (omega arith)
@@ -145,11 +147,13 @@ kept_leaves T k a b c w p q = record {
 }
 
 pub Leaves-fewer : (T : Area) (k l : ℕ) (m n : Memory) (ws : List ℕ) → k ≤ l → Leaves T l m ws n → Leaves T k m ws n
-Leaves-fewer T k l m n ws h p = record { inputs = p.inputs; outputs = p.outputs; outside = λ j i o. p.outside j (omega arith) o; there = p.there; many = p.many; long = p.long }
+Leaves-fewer T k l m n ws h p =
+    record { inputs = p.inputs; outputs = p.outputs; outside = λ j i o. p.outside j (omega arith) o; there = p.there; many = p.many; long = p.long }
 
 -- an area of free words
 pub leaves_kept : (k a n : ℕ) (l : ℕ) (m o : Memory) (ws : List ℕ) → k ≤ a → k ≤ l → Leaves (Part a n) l m ws o → Kept k m o
-leaves_kept k a n l m o ws h i p = record { inputs = p.inputs; outputs = p.outputs; below = λ j b. p.outside j (omega arith) (inl (omega arith)); many = p.many; long = p.long }
+leaves_kept k a n l m o ws h i p =
+    record { inputs = p.inputs; outputs = p.outputs; below = λ j b. p.outside j (omega arith) (inl (omega arith)); many = p.many; long = p.long }
 
 pub target_after : (T : Area) (k : ℕ) (m n : Memory) (ws : List ℕ) → Target T k m → Leaves T k m ws n → Target T k n
 target_after (In j) k m n ws t p = t
@@ -178,7 +182,8 @@ pub record Does (xs : List Action) (T : Area) (k : ℕ) (m : Memory) (ws : List 
   pub leaves : Leaves T k m ws after
 
 -- what follows starts from a memory with those words
-pub does_then : (xs ys : List Action) (T : Area) (k : ℕ) (m : Memory) (v w : List ℕ) → Does xs T k m v → ((n : Memory) → Leaves T k m v n → Does ys T k n w) → Does (then_follow xs ys) T k m w
+pub does_then : (xs ys : List Action) (T : Area) (k : ℕ) (m : Memory) (v w : List ℕ) → Does xs T k m v → ((n : Memory) → Leaves T k m v n → Does ys T k n w)
+    → Does (then_follow xs ys) T k m w
 does_then xs ys T k m v w p f =
     let q = f p.after p.leaves in
     record { after = q.after; runs = apply-after xs ys m p.after p.runs ∙ q.runs; leaves = Leaves-trans T k _ _ _ v w p.leaves q.leaves }
@@ -198,7 +203,10 @@ pub does_tick : (xs : List Action) (T : Area) (k : ℕ) (m : Memory) (ws : List 
 does_tick xs T k m ws p = record { after = p.after; runs = p.runs; leaves = p.leaves }
 
 -- turns that each add a row; P is what the turns need of memory
-pub does_turns : (items : ℕ → List Action) (g : ℕ → Tensor) (f : Placing) (T : Area) (k : ℕ) (P : ℕ → Memory → Type 0) (n i e : ℕ) → i + n ≡ e → ((j : ℕ) (m : Memory) → j < e → P j m → Does (items j) T k m (scatter (g j) (under j f) (part m T)) × ((o : Memory) → Leaves T k m (scatter (g j) (under j f) (part m T)) o → P (j + 1) o)) → (m : Memory) → P i m → Does (turns i n items) T k m (scatter_turns i n g f (part m T))
+pub does_turns : (items : ℕ → List Action) (g : ℕ → Tensor) (f : Placing) (T : Area) (k : ℕ) (P : ℕ → Memory → Type 0) (n i e : ℕ) → i + n ≡ e
+    → ((j : ℕ) (m : Memory) → j < e → P j m → Does (items j) T k m (scatter (g j) (under j f) (part m T))
+    × ((o : Memory) → Leaves T k m (scatter (g j) (under j f) (part m T)) o → P (j + 1) o)) → (m : Memory) → P i m
+    → Does (turns i n items) T k m (scatter_turns i n g f (part m T))
 does_turns items g f T k P zero i e s step m h = does_nothing T k m
 does_turns items g f T k P (suc n) i e s step m h =
     let one = step i m (omega arith) h in
@@ -208,7 +216,8 @@ does_turns items g f T k P (suc n) i e s step m h =
     (does_turns items g f T k P n (i + 1) e (omega arith) step o (one.1 o p))))
 
 -- a list that writes an area of free words, and one that finds it written
-pub does_before : (xs ys : List Action) (T : Area) (k l n : ℕ) (m : Memory) (ws w : List ℕ) → k ≤ l → Does xs (Part k n) l m ws → ((a : Memory) → Leaves (Part k n) l m ws a → Does ys T k a w) → Does (then_follow xs ys) T k m w
+pub does_before : (xs ys : List Action) (T : Area) (k l n : ℕ) (m : Memory) (ws w : List ℕ) → k ≤ l → Does xs (Part k n) l m ws
+    → ((a : Memory) → Leaves (Part k n) l m ws a → Does ys T k a w) → Does (then_follow xs ys) T k m w
 does_before xs ys T k l n m ws w h p f =
     let q = f p.after p.leaves in
     let kept : Kept k m p.after = leaves_kept k k n l m p.after ws (omega arith) h p.leaves in
@@ -221,7 +230,8 @@ pub does_last : (xs : List Action) (T : Area) (k : ℕ) (m : Memory) (ws : List 
 does_last xs T k m ws p = does_then xs [] T k m ws ws p (λ n h. subst (Does [] T k n) h.there (does_nothing T k n))
 
 -- one word put or added, at a place of the area
-pub does_store : (o : Mode) (T : Area) (k : ℕ) (m : Memory) (t : Tree) (p x : ℕ) → Target T k m → word_of t m ≡ Found x → p < length (part m T) → Does (Store o (buffer_of T) t (pos (base T + p)) ∷ []) T k m (set (part m T) p (stored o (get_or (part m T) p 0) x))
+pub does_store : (o : Mode) (T : Area) (k : ℕ) (m : Memory) (t : Tree) (p x : ℕ) → Target T k m → word_of t m ≡ Found x → p < length (part m T)
+    → Does (Store o (buffer_of T) t (pos (base T + p)) ∷ []) T k m (set (part m T) p (stored o (get_or (part m T) p 0) x))
 does_store o (In j) k m t p x tar e l = absurd tar
 does_store o (Out j) k m t p x tar e l =
     let z : 0 + p ≡ p = omega arith in
@@ -231,7 +241,8 @@ does_store o (Out j) k m t p x tar e l =
       after = with_words m (Output j) ws;
       runs =
           ap (λ g. and_then (write o (Output j) (pos p) g m) (apply [])) e
-          ∙ ap (λ v. and_then (if v then Ends (with_words m (Output j) ws) else Stuck (Outside (Output j) (pos p))) (apply [])) (lt-ltb p (length (part m (Out j))) l);
+          ∙ ap (λ v. and_then (if v then Ends (with_words m (Output j) ws) else Stuck (Outside (Output j) (pos p))) (apply []))
+              (lt-ltb p (length (part m (Out j))) l);
       leaves = record { inputs = refl; outputs = refl; outside = λ i a b. refl; there = get_or-set_same m.outputs j ws [] tar; many = refl; long = refl };
     })
 does_store o (Part a n) k m t p x tar e l =
@@ -245,11 +256,13 @@ does_store o (Part a n) k m t p x tar e l =
       after = with_words m (Scratch 0) ws;
       runs =
           ap (λ g. and_then (write o (Scratch 0) (pos (a + p)) g m) (apply [])) e
-          ∙ ap (λ v. and_then (if v then Ends (with_words m (Scratch 0) ws) else Stuck (Outside (Scratch 0) (pos (a + p)))) (apply [])) (lt-ltb (a + p) (length rs) inside);
+          ∙ ap (λ v. and_then (if v then Ends (with_words m (Scratch 0) ws) else Stuck (Outside (Scratch 0) (pos (a + p)))) (apply []))
+              (lt-ltb (a + p) (length rs) inside);
       leaves = record {
         inputs = refl;
         outputs = refl;
-        outside = λ i b c. ap (λ v. get_or v i 0) here ∙ get_or-set_other rs (a + p) i y 0 (λ (d : i ≡ a + p). ⊎_elim (λ (g : i < a). absurd (omega arith)) (λ (g : a + n ≤ i). absurd (omega arith)) c);
+        outside = λ i b c. ap (λ v. get_or v i 0) here
+            ∙ get_or-set_other rs (a + p) i y 0 (λ (d : i ≡ a + p). ⊎_elim (λ (g : i < a). absurd (omega arith)) (λ (g : a + n ≤ i). absurd (omega arith)) c);
         there = ap (read a n) here ∙ read_set n a p y rs in' tar.2 ∙ ap (λ v. set (read a n rs) p (stored o v x)) (sym (read_at n a p rs in'));
         many = length-set m.scratch 0 ws;
         long = ap length here ∙ length-set rs (a + p) y;
@@ -257,7 +270,8 @@ does_store o (Part a n) k m t p x tar e l =
     }
 
 -- words zeroed
-pub does_zero : (n i : ℕ) (T : Area) (k : ℕ) (m : Memory) → Target T k m → i + n ≡ length (part m T) → base T + length (part m T) < 2 ^ 63 → Does (zeroed (buffer_of T) (pos (base T)) i n) T k m (take i (part m T) ++ replicate n 0)
+pub does_zero : (n i : ℕ) (T : Area) (k : ℕ) (m : Memory) → Target T k m → i + n ≡ length (part m T) → base T + length (part m T) < 2 ^ 63
+    → Does (zeroed (buffer_of T) (pos (base T)) i n) T k m (take i (part m T) ++ replicate n 0)
 does_zero zero i T k m t e h =
     let l : length (part m T) ≤ i = omega arith in
     subst (Does [] T k m) (sym (append-nil (take i (part m T)) ∙ take_all i (part m T) l)) (does_nothing T k m)
@@ -267,11 +281,13 @@ does_zero (suc n) i T k m t e h =
     let c : checked (pos (base T) +ℤ pos i) ≡ Value (pos (base T + i)) = checked_ok (base T + i) (omega arith) in
     let one : Does (store_at Puts (buffer_of T) (TreeWord 0) (checked (pos (base T) +ℤ pos i))) T k m (set (part m T) i 0) =
     subst (λ v. Does (store_at Puts (buffer_of T) (TreeWord 0) v) T k m (set (part m T) i 0)) (sym c) (does_store Puts T k m (TreeWord 0) i 0 t refl l) in
-    does_then (store_at Puts (buffer_of T) (TreeWord 0) (checked (pos (base T) +ℤ pos i))) (zeroed (buffer_of T) (pos (base T)) (i + 1) n) T k m (set (part m T) i 0) _ one
+    does_then (store_at Puts (buffer_of T) (TreeWord 0) (checked (pos (base T) +ℤ pos i))) (zeroed (buffer_of T) (pos (base T)) (i + 1) n) T k m
+        (set (part m T) i 0) _ one
     (λ o p.
     let w : part o T ≡ set (part m T) i 0 = p.there in
     let len : length (part o T) ≡ length (part m T) = ap length w ∙ length-set (part m T) i 0 in
     let tar : Target T k o = target_after T k m o _ t p in
     let now : take (i + 1) (part o T) ++ replicate n 0 ≡ take i (part m T) ++ replicate (suc n) 0 =
-    ap (λ v. take (i + 1) v ++ replicate n 0) w ∙ ap (λ v. v ++ replicate n 0) (take_more_set (part m T) i 0 l) ∙ append_assoc (take i (part m T)) (0 ∷ []) (replicate n 0) in
+    ap (λ v. take (i + 1) v ++ replicate n 0) w ∙ ap (λ v. v ++ replicate n 0) (take_more_set (part m T) i 0 l)
+        ∙ append_assoc (take i (part m T)) (0 ∷ []) (replicate n 0) in
     subst (Does (zeroed (buffer_of T) (pos (base T)) (i + 1) n) T k o) now (does_zero n (i + 1) T k o tar (omega arith) (omega arith)))

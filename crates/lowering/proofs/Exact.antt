@@ -1,5 +1,6 @@
 -- The tree of a sum of few small products computes its value.
-use Rattle.std.proofs.Common.{◌≡◌, ℕ, zero, suc, ◌+◌, ◌*◌, ◌^◌, ◌<◌, ◌≤◌, List, [], ◌∷◌, length, Bool, true, false, ◌==◌, Option, Some, None, if◌then◌else◌, refl, sym, ap, ◌∙◌, subst, ⊎_elim, arith}
+use Rattle.std.proofs.Common.{◌≡◌, ℕ, zero, suc, ◌+◌, ◌*◌, ◌^◌, ◌<◌, ◌≤◌, List, [], ◌∷◌, length, Bool, true, false, ◌==◌, Option, Some, None, if◌then◌else◌}
+use Rattle.std.proofs.Common.{refl, sym, ap, ◌∙◌, subst, ⊎_elim, arith}
 use Rattle.std.specs.Prelude.{ℤ, pos, ◌+ℤ◌, ◌*ℤ◌}
 use Rattle.std.specs.Int.RustNames.{unsigned_abs}
 use Rattle.std.proofs.lemmas.Int.{ints}
@@ -19,7 +20,8 @@ use Rattle.loop_lang.specs.declared.index.Iexp.{Iexp}
 use Rattle.loop_lang.specs.declared.index.Iexp.TheVariants as index
 use Rattle.loop_lang.specs.Reckoning.{Value, reckon, checked, on_both}
 use Rattle.loop_lang.proofs.IndexForms.{index_sum-is, index_product-is}
-use Rattle.lowering.specs.IndexTree.{with_factor, with_summand, or_number, leading, item_tree, plus_item, minus_item, plus_constant, minus_constant, is_positive, joined_atom, joined_atoms, plus_terms, minus_terms, index_tree}
+use Rattle.lowering.specs.IndexTree.{with_factor, with_summand, or_number, leading, item_tree, plus_item, minus_item, plus_constant, minus_constant}
+use Rattle.lowering.specs.IndexTree.{is_positive, joined_atom, joined_atoms, plus_terms, minus_terms, index_tree}
 use Rattle.lowering.proofs.TreeLaws.{tree-Mul, tree-items}
 use Rattle.lowering.proofs.Does.{checked_ok}
 use Rattle.lowering.proofs.Whole.{cap}
@@ -39,8 +41,10 @@ joins Base loops k a p o =
     (λ (e : p.factors ≡ a ∷ []). ap (λ fs. joined_atoms loops fs o) (sym e)) p.kind
 
 -- an item of a positive coefficient is added
-pub plus-is : (loops : ℕ) (t : Item Atom) (n : ℕ) (a : Option Iexp) → t.coefficient ≡ pos (suc n) → plus_item t.coefficient (joined_atom loops t.atom) a ≡ with_summand a (item_tree (pos (suc n)) (joined_atom loops t.atom))
-plus-is loops t n a e = ap (λ c. plus_item c (joined_atom loops t.atom) a) e ∙ ap (λ b. if b then with_summand a (item_tree (pos (suc n)) (joined_atom loops t.atom)) else a) (positive_is n)
+pub plus-is : (loops : ℕ) (t : Item Atom) (n : ℕ) (a : Option Iexp) → t.coefficient ≡ pos (suc n)
+    → plus_item t.coefficient (joined_atom loops t.atom) a ≡ with_summand a (item_tree (pos (suc n)) (joined_atom loops t.atom))
+plus-is loops t n a e = ap (λ c. plus_item c (joined_atom loops t.atom) a) e
+    ∙ ap (λ b. if b then with_summand a (item_tree (pos (suc n)) (joined_atom loops t.atom)) else a) (positive_is n)
 
 -- nothing is taken away
 minus-none : (Base : Atom → Type 0) (loops k : ℕ) (ts : List (Item Atom)) (x : Iexp) → EachItem (Nice Base k) ts → minus_terms loops ts x ≡ x
@@ -50,7 +54,8 @@ minus-none Base loops k (t ∷ ts) x h = ap (λ c. minus_terms loops ts (minus_a
     minus_at : ℤ → Iexp
     minus_at c = minus_item c (joined_atom loops t.atom) x
 
-pub tree-nice : (Base : Atom → Type 0) (loops k n : ℕ) (i : Items) → NiceForm Base k n i → index_tree loops i ≡ or_number (pos 0) (plus_terms loops i.terms None)
+pub tree-nice : (Base : Atom → Type 0) (loops k n : ℕ) (i : Items) → NiceForm Base k n i
+    → index_tree loops i ≡ or_number (pos 0) (plus_terms loops i.terms None)
 tree-nice Base loops k n i p =
     tree-items loops i
     ∙ ap (λ c. minus_constant c (minus_terms loops i.terms (or_number (pos 0) (plus_constant c (plus_terms loops i.terms None))))) p.constant
@@ -88,7 +93,8 @@ module _ (s y r : List ℕ) where
   factors_number [] h = refl
   factors_number (f ∷ fs) h = λ i. h.0.value i *ℤ factors_number fs h.1 i
 
-  product_of_all : (fs : List Atom) (h : Each BaseAt fs) (p : Option Iexp) (n most : ℕ) → So p n → n ≤ most → most * cap (length fs) < 2 ^ 63 → So (joined_atoms (length r) fs p) (n * number_of fs h)
+  product_of_all : (fs : List Atom) (h : Each BaseAt fs) (p : Option Iexp) (n most : ℕ) → So p n → n ≤ most → most * cap (length fs) < 2 ^ 63
+      → So (joined_atoms (length r) fs p) (n * number_of fs h)
   product_of_all [] h p n most g l b = let e : n ≡ n * 1 = omega arith in subst (So p) e g
   product_of_all (f ∷ fs) h p n most g l b =
       let m = h.0.number in
@@ -98,7 +104,8 @@ module _ (s y r : List ℕ) where
       let small : n * m < 2 ^ 63 = omega (arith, mul-le-mul_left (most * 1048576) (cap_above (length fs))) in
       let one : So (joined_atom (length r) f p) (n * m) = subst (λ o. So o (n * m)) (sym (h.0.joined p)) (product_step p n h.0.tree m g h.0.reckons small) in
       let e : n * m * number_of fs h.1 ≡ n * (m * number_of fs h.1) = omega arith in
-      subst (So (joined_atoms (length r) fs (joined_atom (length r) f p))) e (product_of_all fs h.1 (joined_atom (length r) f p) (n * m) (most * 1048576) one bound room)
+      subst (So (joined_atoms (length r) fs (joined_atom (length r) f p))) e
+          (product_of_all fs h.1 (joined_atom (length r) f p) (n * m) (most * 1048576) one bound room)
 
   leading_is : (n : ℕ) → So (leading n) n
   leading_is n = go (n == 1) refl
@@ -130,11 +137,14 @@ module _ (s y r : List ℕ) where
       let n = number_of p.factors p.base in
       let small : n ≤ cap 3 = omega (arith, number_most p.factors p.base, cap_more (length p.factors) p.few) in
       let room : c * cap (length p.factors) < 2 ^ 63 = omega (arith, mul-le-mul_left c (cap_more (length p.factors) p.few)) in
-      let v : atom_value s y t.atom ≡ pos n = ⊎_elim (λ (e : t.atom ≡ Mul p.factors). ap (atom_value s y) e ∙ value-Mul s y p.factors ∙ factors_number p.factors p.base)
+      let v : atom_value s y t.atom ≡ pos n =
+          ⊎_elim (λ (e : t.atom ≡ Mul p.factors). ap (atom_value s y) e ∙ value-Mul s y p.factors ∙ factors_number p.factors p.base)
       (λ (e : p.factors ≡ t.atom ∷ []). one_value p.factors p.base e) p.kind in
       record {
         number = c * n;
-        reckons = or_one (joined_atom (length r) t.atom (leading c)) (c * n) (subst (λ o. So o (c * n)) (sym (joins BaseAt (length r) 3 t.atom p (leading c))) (product_of_all p.factors p.base (leading c) c c (leading_is c) (omega arith) room));
+        reckons = or_one (joined_atom (length r) t.atom (leading c)) (c * n)
+            (subst (λ o. So o (c * n)) (sym (joins BaseAt (length r) 3 t.atom p (leading c)))
+            (product_of_all p.factors p.base (leading c) c c (leading_is c) (omega arith) room));
         value = ap (λ z. pos c *ℤ z) v;
         most = omega (arith, mul-le-mul_left c small);
       }
@@ -169,7 +179,8 @@ module _ (s y r : List ℕ) where
       let all : n + (c + terms_norm ts) * cap 3 < 2 ^ 63 = subst (λ k. n + k * cap 3 < 2 ^ 63) size l in
       let one = item_is t c h.0.0 (omega arith) in
       let next : Sums (plus_item t.coefficient (joined_atom (length r) t.atom) a) (n + one.number) =
-      subst (λ o. Sums o (n + one.number)) (sym (plus-is (length r) t h.0.1.0 a h.0.1.1)) (sum_step a n (item_tree (pos c) (joined_atom (length r) t.atom)) one.number g one.reckons (omega (arith, one.most))) in
+      subst (λ o. Sums o (n + one.number)) (sym (plus-is (length r) t h.0.1.0 a h.0.1.1))
+          (sum_step a n (item_tree (pos c) (joined_atom (length r) t.atom)) one.number g one.reckons (omega (arith, one.most))) in
       let rest = sum_is ts (plus_item t.coefficient (joined_atom (length r) t.atom) a) (n + one.number) h.1 next (omega (arith, one.most)) in
       let e : n + one.number + rest.number ≡ n + (one.number + rest.number) = omega arith in
       record {

@@ -35,7 +35,8 @@ module _ (Base : Atom → Type 0) where
     pub constant : i.constant ≡ pos 0
     pub small : norm i ≤ most
 
-  closed : (k : ℕ) (a b : Item Atom) → Nice k a → Nice k b → int_eq (a.coefficient +ℤ b.coefficient) (pos 0) ≡ false → Nice k (record { atom = a.atom; coefficient = a.coefficient +ℤ b.coefficient })
+  closed : (k : ℕ) (a b : Item Atom) → Nice k a → Nice k b → int_eq (a.coefficient +ℤ b.coefficient) (pos 0) ≡ false
+      → Nice k (record { atom = a.atom; coefficient = a.coefficient +ℤ b.coefficient })
   closed k a b h g e =
       let n : suc h.1.0 + suc g.1.0 ≡ suc (h.1.0 + suc g.1.0) = omega arith in
       (h.0, (h.1.0 + suc g.1.0, (λ i. h.1.1 i +ℤ g.1.1 i) ∙ ap pos n))
@@ -89,21 +90,25 @@ module _ (Base : Atom → Type 0) where
     not_zero : (n : ℕ) → int_eq (pos (suc n)) (pos 0) ≡ false
     not_zero n = grind arith
 
-    scaled-once : (c : ℤ) (n : ℕ) (a : Atom) → c ≡ pos (suc n) → scaled c (of_atom a) ≡ record { terms = record { atom = a; coefficient = pos (suc n) *ℤ pos 1 } ∷ []; constant = pos (suc n) *ℤ pos 0 }
+    scaled-once : (c : ℤ) (n : ℕ) (a : Atom) → c ≡ pos (suc n)
+        → scaled c (of_atom a) ≡ record { terms = record { atom = a; coefficient = pos (suc n) *ℤ pos 1 } ∷ []; constant = pos (suc n) *ℤ pos 0 }
     scaled-once c n a e = ap (λ z. scaled z (of_atom a)) e ∙ ap (λ b. scaled_if b (pos (suc n)) (of_atom a)) (not_zero n)
 
-    adds_nice : (k : ℕ) (ts : List (Item Atom)) (start : Items) → EachItem (Nice k) ts → NiceTerms (suc k) start → NiceTerms (suc k) (add_up (term_products ts (size_form q)) start)
+    adds_nice : (k : ℕ) (ts : List (Item Atom)) (start : Items) → EachItem (Nice k) ts → NiceTerms (suc k) start
+        → NiceTerms (suc k) (add_up (term_products ts (size_form q)) start)
     adds_nice k [] start h g = g
     adds_nice k (t ∷ ts) start h g =
         let a = atom_product t.atom (Size q) in
         let n = h.0.1.0 in
-        let e : scaled t.coefficient (atom_times t.atom (size_form q)) ≡ record { terms = record { atom = a; coefficient = pos (suc n) *ℤ pos 1 } ∷ []; constant = pos (suc n) *ℤ pos 0 } = scaled-once t.coefficient n a h.0.1.1 in
+        let e : scaled t.coefficient (atom_times t.atom (size_form q)) ≡ record
+            { terms = record { atom = a; coefficient = pos (suc n) *ℤ pos 1 } ∷ []; constant = pos (suc n) *ℤ pos 0 } = scaled-once t.coefficient n a h.0.1.1 in
         let z : pos (suc n) *ℤ pos 1 ≡ pos (suc n) = omega (arith, ints) in
         let zero' : pos (suc n) *ℤ pos 0 ≡ pos 0 = omega (arith, ints) in
         let one : NiceTerms (suc k) (scaled t.coefficient (atom_times t.atom (size_form q))) =
         subst (NiceTerms (suc k)) (sym e) (((product_plain k t.atom h.0.0, (n, z)), tt), zero') in
         adds_nice k ts (sum_of start (scaled t.coefficient (atom_times t.atom (size_form q)))) h.1
-        (merged-each (Nice (suc k)) (closed (suc k)) start.terms (scaled t.coefficient (atom_times t.atom (size_form q))).terms g.0 one.0, λ i. g.1 i +ℤ one.1 i)
+        (merged-each (Nice (suc k)) (closed (suc k)) start.terms (scaled t.coefficient (atom_times t.atom (size_form q))).terms g.0 one.0, λ i. g.1 i
+            +ℤ one.1 i)
 
     pub nice_times : (k n : ℕ) (x : Items) → NiceForm k n x → NiceForm (suc k) n (product_of x (size_form q))
     nice_times k n x p =

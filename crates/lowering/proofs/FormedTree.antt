@@ -1,5 +1,6 @@
 -- The tree of a sum of few products is well formed.
-use Rattle.std.proofs.Common.{◌≡◌, ℕ, suc, ◌+◌, ◌^◌, ◌<◌, List, [], ◌∷◌, Bool, true, false, ◌==◌, Option, Some, None, if◌then◌else◌, refl, sym, ap, ◌∙◌, subst, arith}
+use Rattle.std.proofs.Common.{◌≡◌, ℕ, suc, ◌+◌, ◌^◌, ◌<◌, List, [], ◌∷◌, Bool, true, false, ◌==◌, Option, Some, None, if◌then◌else◌, refl, sym, ap, ◌∙◌, subst}
+use Rattle.std.proofs.Common.{arith}
 use Rattle.std.specs.Prelude.{pos}
 use Rattle.std.specs.Int.RustNames.{unsigned_abs}
 use Rattle.std.proofs.lemmas.Bool.{lt-ltb, and_from}
@@ -55,13 +56,16 @@ module _ (sizes loops : ℕ) (in_length : Bool) where
   summand_fine None x h g = g
   summand_fine (Some a) x h g = ap (λ t. index_formed sizes in_length t loops) (index_sum-is a x) ∙ and_from _ _ h g
 
-  sum_fine : (k : ℕ) (ts : List (Item Atom)) (a : Option Iexp) → EachItem (Nice BaseFormed k) ts → terms_norm ts < 2 ^ 63 → Fine a → Fine (plus_terms loops ts a)
+  sum_fine : (k : ℕ) (ts : List (Item Atom)) (a : Option Iexp) → EachItem (Nice BaseFormed k) ts → terms_norm ts < 2 ^ 63 → Fine a
+      → Fine (plus_terms loops ts a)
   sum_fine k [] a h l g = g
   sum_fine k (t ∷ ts) a h l g =
       let c = suc h.0.1.0 in
       let size : terms_norm (t ∷ ts) ≡ c + terms_norm ts = ap (λ z. unsigned_abs z + terms_norm ts) h.0.1.1 in
       let item : index_formed sizes in_length (item_tree (pos c) (joined_atom loops t.atom)) loops ≡ true =
-      or_fine (joined_atom loops t.atom (leading c)) (subst Fine (sym (joins BaseFormed loops k t.atom h.0.0 (leading c))) (factors_fine h.0.0.factors h.0.0.base (leading c) (leading_fine c (omega arith)))) in
+      or_fine (joined_atom loops t.atom (leading c))
+          (subst Fine (sym (joins BaseFormed loops k t.atom h.0.0 (leading c)))
+          (factors_fine h.0.0.factors h.0.0.base (leading c) (leading_fine c (omega arith)))) in
       sum_fine k ts (plus_item t.coefficient (joined_atom loops t.atom) a) h.1 (omega arith)
       (subst Fine (sym (plus-is loops t h.0.1.0 a h.0.1.1)) (summand_fine a (item_tree (pos c) (joined_atom loops t.atom)) g item))
 

@@ -43,7 +43,8 @@ program-is m small =
     })
 
 -- the program that the code builds, from the output that it takes
-pub program-at : (m : Module) (small : IsSmall m) (n : ℕ) (ds : List InputDecl) (os : List OutputDecl) (o : OutputDecl) → n ≡ length m.sizes → ds ≡ m.inputs → os ≡ m.outputs → o ≡ get_or os 0 o → nest_program n ds o.term ≡ program_of m
+pub program-at : (m : Module) (small : IsSmall m) (n : ℕ) (ds : List InputDecl) (os : List OutputDecl) (o : OutputDecl) → n ≡ length m.sizes → ds ≡ m.inputs
+    → os ≡ m.outputs → o ≡ get_or os 0 o → nest_program n ds o.term ≡ program_of m
 program-at m small n ds os o a b c d =
     let same : o ≡ small.output = d ∙ ap (λ l. get_or l 0 o) (c ∙ small.alone) in
     (λ i. nest_program (a i) (b i) (same i).term) ∙ program-is m small
@@ -53,7 +54,8 @@ if_ok (Ok x) q P h g = subst P (sym h) g
 if_ok (Err e) q P h g = tt
 
 pub small_formed : (m : Module) → IsSmall m → IsWellFormed (program_of m)
-small_formed m small = well_formed m small 3 (third_places_formed (length m.sizes)) (third_lengths_formed (length m.sizes)) small.ranks (nest_here m small []).few
+small_formed m small = well_formed m small 3 (third_places_formed (length m.sizes)) (third_lengths_formed (length m.sizes)) small.ranks
+    (nest_here m small []).few
 
 small_owed : (m : Module) (small : IsSmall m) (s : List ℕ) → Allowed m s → Owed m s
 small_owed m small s a =

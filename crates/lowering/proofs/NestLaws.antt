@@ -19,17 +19,22 @@ use Rattle.lowering.proofs.Right.{leaf_of_word}
 use Rattle.lowering.proofs.CodeLaws.{place-plain, parts_of_read}
 
 -- a leaf in an output
-pub leaf-plain : (w : Worded) (sites : List Site) (number : ℕ) (ns : List Items) (loops : ℕ) → leaf w sites (nest_site number ns) (nest_frames loops) loops Puts ≡ Put (Output number) (index_tree loops (row_place ns (outer_variables loops loops))) (w sites loops) ∷ []
+pub leaf-plain : (w : Worded) (sites : List Site) (number : ℕ) (ns : List Items) (loops : ℕ)
+    → leaf w sites (nest_site number ns) (nest_frames loops) loops Puts ≡ Put (Output number) (index_tree loops (row_place ns (outer_variables loops loops)))
+    (w sites loops) ∷ []
 leaf-plain w sites number ns loops =
     ap (λ i. Put (Output number) i (w sites loops) ∷ [])
-    (place-plain loops (nest_site number ns) (indices_after loops (nest_frames loops) []) refl ∙ ap (λ l. index_tree loops (row_place ns l)) (nest_indices loops loops [] ∙ append-nil (outer_variables loops loops)))
+    (place-plain loops (nest_site number ns) (indices_after loops (nest_frames loops) []) refl
+        ∙ ap (λ l. index_tree loops (row_place ns l)) (nest_indices loops loops [] ∙ append-nil (outer_variables loops loops)))
 
 -- the extents of a gen, and of none
 pub gens-Gen : (n : Aff) (e : Term) → gens_of (variant.Gen n e) ≡ n ∷ gens_of e
 gens-Gen n e = ap gens_of (Gen-is n e) ∙ gens-gen n e
 
 -- the loops of a gen
-pub loops-Gen : (n : Aff) (e : Term) (sites : List Site) (site : Site) (loops : ℕ) → term_loops (variant.Gen n e) sites site (nest_frames loops) loops Puts ≡ For (index_tree loops n) false (Seq (term_loops e sites site (nest_frames (loops + 1)) (loops + 1) Puts)) ∷ []
+pub loops-Gen : (n : Aff) (e : Term) (sites : List Site) (site : Site) (loops : ℕ)
+    → term_loops (variant.Gen n e) sites site (nest_frames loops) loops Puts ≡ For (index_tree loops n) false
+    (Seq (term_loops e sites site (nest_frames (loops + 1)) (loops + 1) Puts)) ∷ []
 loops-Gen n e sites site loops =
     let d1 : suc loops ≡ loops + 1 = omega arith in
     ap (λ p. p.loops sites site (nest_frames loops) loops Puts) (ap parts_of (Gen-is n e) ∙ fold-gen Parts parts_step n e)

@@ -1,5 +1,6 @@
 -- A whole program: each output is zeroed and then written.
-use Rattle.std.proofs.Common.{◌≡◌, ℕ, zero, suc, ◌+◌, ◌^◌, ◌<◌, List, [], ◌∷◌, ◌++◌, length, map, get_or, replicate, pos, refl, sym, ap, ◌∙◌, subst, arith, length-set, get_or-set_other}
+use Rattle.std.proofs.Common.{◌≡◌, ℕ, zero, suc, ◌+◌, ◌^◌, ◌<◌, List, [], ◌∷◌, ◌++◌, length, map, get_or, replicate, pos, refl, sym, ap, ◌∙◌, subst, arith}
+use Rattle.std.proofs.Common.{length-set, get_or-set_other}
 use Rattle.std.specs.Prelude.{All}
 use Rattle.std.proofs.lemmas.List.{length-replicate}
 use Rattle.affine_index.specs.Form.{literal_form}
@@ -54,7 +55,8 @@ module _ (m : Module) (s : List ℕ) where
   OutputsFit [] j = Unit {0}
   OutputsFit (o ∷ os) j =
       Fits s (input_sites m) areas extents o.term (output_dims o) [] [] [] (output_site m o j) (Out j) (output_dims o)
-      × (reckon (length_tree (output_extents m o)) s [] ≡ Value (pos (word_count (output_dims o)))) × (word_count (output_dims o) < 2 ^ 63) × OutputsFit os (j + 1)
+      × (reckon (length_tree (output_extents m o)) s [] ≡ Value (pos (word_count (output_dims o)))) × (word_count (output_dims o) < 2 ^ 63)
+          × OutputsFit os (j + 1)
 
   pub record Owed : Type 0 where
     pub start : reckon (index_tree 0 (literal_form (pos 0))) s [] ≡ Value (pos 0)
@@ -93,7 +95,8 @@ module _ (m : Module) (s : List ℕ) where
     prepared_after : (os : List OutputDecl) (i j : ℕ) (n o : Memory) (ws : List ℕ) → i < j → Leaves (Out i) 0 n ws o → Prepared os j n → Prepared os j o
     prepared_after [] i j n o ws l p h = tt
     prepared_after (x ∷ os) i j n o ws l p h =
-        let other : get_or o.outputs j [] ≡ get_or n.outputs j [] = ap (λ v. get_or v j []) p.outputs ∙ get_or-set_other n.outputs i j ws [] (λ (d : j ≡ i). absurd (omega arith)) in
+        let other : get_or o.outputs j [] ≡ get_or n.outputs j [] =
+            ap (λ v. get_or v j []) p.outputs ∙ get_or-set_other n.outputs i j ws [] (λ (d : j ≡ i). absurd (omega arith)) in
         (omega (arith, h.0, ap length p.outputs, length-set n.outputs i ws), ap length other ∙ h.1, prepared_after os i (j + 1) n o ws (omega arith) p h.2)
 
     inputs_after : (T : Area) (n o : Memory) (ws : List ℕ) → Inputs t n → Leaves T 0 n ws o → Inputs t o
@@ -108,7 +111,8 @@ module _ (m : Module) (s : List ℕ) where
     held_by : (T : Area) (n : Memory) → Inputs t n → Held s (input_sites m) areas extents t T 0 n
     held_by T n h = record { shaped = h.shaped; words = h.words; buffers = h.buffers; calm = h.calm T; words_are = h.words_are }
 
-    one_output : (o : OutputDecl) (os : List OutputDecl) (j : ℕ) (n : Memory) → OutputsFit (o ∷ os) j → Prepared (o ∷ os) j n → Inputs t n → Does (then_follow (zeroed (Output j) (pos 0) 0 (word_count (output_dims o))) (body_of o j)) (Out j) 0 n (flat (den o.term s [] t))
+    one_output : (o : OutputDecl) (os : List OutputDecl) (j : ℕ) (n : Memory) → OutputsFit (o ∷ os) j → Prepared (o ∷ os) j n → Inputs t n
+        → Does (then_follow (zeroed (Output j) (pos 0) 0 (word_count (output_dims o))) (body_of o j)) (Out j) 0 n (flat (den o.term s [] t))
     one_output o os j n fits ready held =
         does_then (zeroed (Output j) (pos 0) 0 wc) (body_of o j) (Out j) 0 n zs (flat (den o.term s [] t))
         (does_zero wc 0 (Out j) 0 n ready.0 (omega (arith, ready.1)) (omega (arith, ready.1, fits.2)))
@@ -121,8 +125,10 @@ module _ (m : Module) (s : List ℕ) where
           held = held_by (Out j) a now;
           free = omega arith;
         } in
-        let shape = den_shape s (input_sites m) areas extents o.term (output_dims o) [] [] [] (output_site m o j) (Out j) (output_dims o) t 0 a fits.0 st.held st.free in
-        subst (Does (body_of o j) (Out j) 0 a) (ap (scatter (den o.term s [] t) (placed 0 (output_dims o))) p.there ∙ flat_from_zeros (den o.term s [] t) (output_dims o) shape.0 shape.1)
+        let shape = den_shape s (input_sites m) areas extents o.term (output_dims o) [] [] [] (output_site m o j) (Out j) (output_dims o) t 0 a fits.0 st.held
+            st.free in
+        subst (Does (body_of o j) (Out j) 0 a)
+            (ap (scatter (den o.term s [] t) (placed 0 (output_dims o))) p.there ∙ flat_from_zeros (den o.term s [] t) (output_dims o) shape.0 shape.1)
         (right s (input_sites m) areas extents o.term (output_dims o) [] [] [] (placed 0 (output_dims o)) Puts 0 (output_site m o j) (Out j) (output_dims o) t a
         (ext (λ ix. refl)) tt refl fits.0
         (λ ix jx q v c g h. let e = placed-is 0 (output_dims o) ix v in let f = placed-is 0 (output_dims o) jx c in
@@ -136,34 +142,41 @@ module _ (m : Module) (s : List ℕ) where
         zs : List ℕ
         zs = replicate wc 0
 
-    program_runs : (os : List OutputDecl) (j : ℕ) (n : Memory) → reckon (index_tree 0 (literal_form (pos 0))) s [] ≡ Value (pos 0) → OutputsFit os j → Prepared os j n → Inputs t n → Runs os j n
-    program_runs [] j n start fits ready held = record { after = n; runs = refl; delivered = tt; before = λ i h. refl; inputs = refl; many = refl; scratch = refl }
+    program_runs : (os : List OutputDecl) (j : ℕ) (n : Memory) → reckon (index_tree 0 (literal_form (pos 0))) s [] ≡ Value (pos 0) → OutputsFit os j
+        → Prepared os j n → Inputs t n → Runs os j n
+    program_runs [] j n start fits ready held =
+        record { after = n; runs = refl; delivered = tt; before = λ i h. refl; inputs = refl; many = refl; scratch = refl }
     program_runs (o ∷ os) j n start fits ready held =
         let one = one_output o os j n fits ready held in
         let a = one.after in
         let p = one.leaves in
-        let rest = program_runs os (j + 1) a start fits.3 (prepared_after os j (j + 1) n a (flat (den o.term s [] t)) (omega arith) p ready.2) (inputs_after (Out j) n a (flat (den o.term s [] t)) held p) in
+        let rest = program_runs os (j + 1) a start fits.3 (prepared_after os j (j + 1) n a (flat (den o.term s [] t)) (omega arith) p ready.2)
+            (inputs_after (Out j) n a (flat (den o.term s [] t)) held p) in
         let zs = zeroed (Output j) (pos 0) 0 (word_count (output_dims o)) in
         let body = term_loops o.term (input_sites m) (output_site m o j) [] 0 Puts in
         let others = outputs_loops m os (j + 1) in
         let actions : acts_all (outputs_loops m (o ∷ os) j) s [] ≡ then_follow (then_follow zs (body_of o j)) (acts_all others s []) =
-        ap (λ l. then_follow l (acts_all (body ++ others) s [])) (acts-zero (Output j) (index_tree 0 (literal_form (pos 0))) (length_tree (output_extents m o)) s [] ∙ (λ i. fill (Output j) (start i) (fits.1 i)))
+        ap (λ l. then_follow l (acts_all (body ++ others) s []))
+            (acts-zero (Output j) (index_tree 0 (literal_form (pos 0))) (length_tree (output_extents m o)) s [] ∙ (λ i. fill (Output j) (start i) (fits.1 i)))
         ∙ ap (then_follow zs) (acts_all-append body others s [])
         ∙ sym (then_follow-assoc zs (body_of o j) (acts_all others s [])) in
         record {
           after = rest.after;
           runs = ap (λ l. apply l n) actions ∙ apply-after (then_follow zs (body_of o j)) (acts_all others s []) n a one.runs ∙ rest.runs;
           delivered = (rest.before j (omega arith) ∙ p.there, rest.delivered);
-          before = λ i h. rest.before i (omega arith) ∙ ap (λ v. get_or v i []) p.outputs ∙ get_or-set_other n.outputs j i (flat (den o.term s [] t)) [] (λ (d : i ≡ j). absurd (omega arith));
+          before = λ i h. rest.before i (omega arith) ∙ ap (λ v. get_or v i []) p.outputs
+              ∙ get_or-set_other n.outputs j i (flat (den o.term s [] t)) [] (λ (d : i ≡ j). absurd (omega arith));
           inputs = rest.inputs ∙ p.inputs;
           many = rest.many ∙ ap length p.outputs ∙ length-set n.outputs j (flat (den o.term s [] t));
           scratch = rest.scratch ∙ p.many;
         }
 
-    delivered_at : (os : List OutputDecl) (j i : ℕ) (n : Memory) → Delivered os j n → i < length os → get_or n.outputs (j + i) [] ≡ get_or (map flat (map (λ o. den o.term s [] t) os)) i []
+    delivered_at : (os : List OutputDecl) (j i : ℕ) (n : Memory) → Delivered os j n → i < length os
+        → get_or n.outputs (j + i) [] ≡ get_or (map flat (map (λ o. den o.term s [] t) os)) i []
     delivered_at [] j i n h l = absurd (omega arith)
     delivered_at (o ∷ os) j zero n h l = let e : j + 0 ≡ j = omega arith in ap (λ k. get_or n.outputs k []) e ∙ h.0
-    delivered_at (o ∷ os) j (suc i) n h l = let e : j + suc i ≡ j + 1 + i = omega arith in ap (λ k. get_or n.outputs k []) e ∙ delivered_at os (j + 1) i n h.1 (omega arith)
+    delivered_at (o ∷ os) j (suc i) n h l = let e : j + suc i ≡ j + 1 + i = omega arith in
+        ap (λ k. get_or n.outputs k []) e ∙ delivered_at os (j + 1) i n h.1 (omega arith)
 
 -- lists with equal entries
 same_list : {A : Type 0} (d : A) (us vs : List A) → length us ≡ length vs → ((i : ℕ) → i < length us → get_or us i d ≡ get_or vs i d) → us ≡ vs
@@ -192,7 +205,8 @@ map-append f (u ∷ us) vs = ap (λ l. f u ∷ l) (map-append f us vs)
 
 -- what the inputs of a run hold
 bound_at : (ds : List InputDecl) (s : List ℕ) (ts : List Tensor) (q : ℕ) → AreInputs ds s ts → q < length ds
-    → HasShape (get_or (map (λ d. extents_at d.extents s) ds) q []) (get_or (inputs_bound ds s ts) q no_bound).1 × HasWords (get_or (inputs_bound ds s ts) q no_bound).1 × (get_or (map flat ts) q [] ≡ flat (get_or (inputs_bound ds s ts) q no_bound).1)
+    → HasShape (get_or (map (λ d. extents_at d.extents s) ds) q []) (get_or (inputs_bound ds s ts) q no_bound).1
+        × HasWords (get_or (inputs_bound ds s ts) q no_bound).1 × (get_or (map flat ts) q [] ≡ flat (get_or (inputs_bound ds s ts) q no_bound).1)
 bound_at [] s ts q h l = absurd (omega arith)
 bound_at (d ∷ ds) s [] q h l = absurd h
 bound_at (d ∷ ds) s (t ∷ ts) zero h l = (h.0, h.1, refl)
@@ -208,7 +222,8 @@ site_at k [] q l = absurd (omega arith)
 site_at k (d ∷ ds) zero l = let e : k ≡ k + 0 = omega arith in ap (λ j. buffer_of (In j)) e
 site_at k (d ∷ ds) (suc q) l = let e : k + 1 + q ≡ k + suc q = omega arith in site_at (k + 1) ds q (omega arith) ∙ ap (λ j. buffer_of (In j)) e
 
-inputs_held : (m : Module) (s : List ℕ) (ts : List Tensor) (n : Memory) → AreInputs m.inputs s ts → n.inputs ≡ map flat ts → Inputs m s (inputs_bound m.inputs s ts) n
+inputs_held : (m : Module) (s : List ℕ) (ts : List Tensor) (n : Memory) → AreInputs m.inputs s ts → n.inputs ≡ map flat ts
+    → Inputs m s (inputs_bound m.inputs s ts) n
 inputs_held m s ts n h e =
     let many : length (input_extents_at m s) ≡ length m.inputs = length-map (λ d. extents_at d.extents s) m.inputs in record {
       shaped = λ q l. (bound_at m.inputs s ts q h (omega arith)).0;
@@ -217,16 +232,19 @@ inputs_held m s ts n h e =
       calm = λ T q l. subst (λ A. Calm A T 0) (sym (area_at 0 m.inputs q (omega arith))) tt;
       words_are = λ q l.
           let z : 0 + q ≡ q = omega arith in
-          ap (part n) (area_at 0 m.inputs q (omega arith)) ∙ ap (λ j. get_or n.inputs j []) z ∙ ap (λ v. get_or v q []) e ∙ (bound_at m.inputs s ts q h (omega arith)).2;
+          ap (part n) (area_at 0 m.inputs q (omega arith)) ∙ ap (λ j. get_or n.inputs j []) z ∙ ap (λ v. get_or v q []) e
+              ∙ (bound_at m.inputs s ts q h (omega arith)).2;
     }
 
-outputs_prepared : (m : Module) (s : List ℕ) (os : List OutputDecl) (j : ℕ) (n : Memory) → length n.outputs ≡ j + length os → ((i : ℕ) → i < length os → length (get_or n.outputs (j + i) []) ≡ get_or (map (λ o. word_count (output_dims m s o)) os) i 0) → Prepared m s os j n
+outputs_prepared : (m : Module) (s : List ℕ) (os : List OutputDecl) (j : ℕ) (n : Memory) → length n.outputs ≡ j + length os
+    → ((i : ℕ) → i < length os → length (get_or n.outputs (j + i) []) ≡ get_or (map (λ o. word_count (output_dims m s o)) os) i 0) → Prepared m s os j n
 outputs_prepared m s [] j n e h = tt
 outputs_prepared m s (o ∷ os) j n e h =
     let z : j ≡ j + 0 = omega arith in (
       omega (arith, e),
       ap (λ k. length (get_or n.outputs k [])) z ∙ h 0 (omega arith),
-      outputs_prepared m s os (j + 1) n (omega (arith, e)) (λ i l. let g : j + 1 + i ≡ j + suc i = omega arith in ap (λ k. length (get_or n.outputs k [])) g ∙ h (suc i) (omega arith)),
+      outputs_prepared m s os (j + 1) n (omega (arith, e))
+          (λ i l. let g : j + 1 + i ≡ j + suc i = omega arith in ap (λ k. length (get_or n.outputs k [])) g ∙ h (suc i) (omega arith)),
     )
 
 get_or-map_length : (us : List (List ℕ)) (i : ℕ) → get_or (map length us) i 0 ≡ length (get_or us i [])
@@ -235,11 +253,13 @@ get_or-map_length (u ∷ us) zero = refl
 get_or-map_length (u ∷ us) (suc i) = get_or-map_length us i
 
 -- the lengths
-input_lengths : (m : Module) (s : List ℕ) (ds : List InputDecl) → InputsFit m s ds → map (λ x. length_of (reckon x s [])) (map (λ d. length_tree d.extents) ds) ≡ map word_count (map (λ d. extents_at d.extents s) ds)
+input_lengths : (m : Module) (s : List ℕ) (ds : List InputDecl) → InputsFit m s ds
+    → map (λ x. length_of (reckon x s [])) (map (λ d. length_tree d.extents) ds) ≡ map word_count (map (λ d. extents_at d.extents s) ds)
 input_lengths m s [] h = refl
 input_lengths m s (d ∷ ds) h = λ i. length_of (h.0 i) ∷ input_lengths m s ds h.1 i
 
-output_lengths : (m : Module) (s : List ℕ) (os : List OutputDecl) (j : ℕ) → OutputsFit m s os j → map (λ x. length_of (reckon x s [])) (map (λ o. length_tree (output_extents m o)) os) ≡ map (λ o. word_count (output_dims m s o)) os
+output_lengths : (m : Module) (s : List ℕ) (os : List OutputDecl) (j : ℕ) → OutputsFit m s os j
+    → map (λ x. length_of (reckon x s [])) (map (λ o. length_tree (output_extents m o)) os) ≡ map (λ o. word_count (output_dims m s o)) os
 output_lengths m s [] j h = refl
 output_lengths m s (o ∷ os) j h = λ i. length_of (h.1 i) ∷ output_lengths m s os (j + 1) h.3 i
 
@@ -257,19 +277,24 @@ all_cons P u us h g (suc k) d l = g k d (omega arith)
 
 inputs_computed : (m : Module) (s : List ℕ) (ds : List InputDecl) → InputsFit m s ds → All (Computed s) (map (λ d. length_tree d.extents) ds)
 inputs_computed m s [] h = λ k d l. absurd (omega arith)
-inputs_computed m s (d ∷ ds) h = all_cons (Computed s) (length_tree d.extents) (map (λ d. length_tree d.extents) ds) (word_count (extents_at d.extents s), h.0) (inputs_computed m s ds h.1)
+inputs_computed m s (d ∷ ds) h =
+    all_cons (Computed s) (length_tree d.extents) (map (λ d. length_tree d.extents) ds) (word_count (extents_at d.extents s), h.0) (inputs_computed m s ds h.1)
 
 all_append : {A : Type 0} (P : A → Type 0) (us vs : List A) → All P us → All P vs → All P (us ++ vs)
 all_append P [] vs h k = k
 all_append P (u ∷ us) vs h k = all_cons P u (us ++ vs) (h 0 u (omega arith)) (all_append P us vs (λ i d l. h (suc i) d (omega arith)) k)
 
-outputs_computed : (m : Module) (s : List ℕ) (os : List OutputDecl) (j : ℕ) → OutputsFit m s os j → All (Computed s) (map (λ o. length_tree (output_extents m o)) os)
+outputs_computed : (m : Module) (s : List ℕ) (os : List OutputDecl) (j : ℕ) → OutputsFit m s os j
+    → All (Computed s) (map (λ o. length_tree (output_extents m o)) os)
 outputs_computed m s [] j h = λ k d l. absurd (omega arith)
-outputs_computed m s (o ∷ os) j h = all_cons (Computed s) (length_tree (output_extents m o)) (map (λ o. length_tree (output_extents m o)) os) (word_count (output_dims m s o), h.1) (outputs_computed m s os (j + 1) h.3)
+outputs_computed m s (o ∷ os) j h =
+    all_cons (Computed s) (length_tree (output_extents m o)) (map (λ o. length_tree (output_extents m o)) os) (word_count (output_dims m s o), h.1)
+    (outputs_computed m s os (j + 1) h.3)
 
 pub has_lengths : (m : Module) → ((s : List ℕ) → Allowed m s → Owed m s) → HasLengths m (program_of m)
 has_lengths m owed = record {
-  computed = λ s a. all_append (Computed s) (map (λ d. length_tree d.extents) m.inputs) (map (λ o. length_tree (output_extents m o)) m.outputs) (inputs_computed m s m.inputs (owed s a).inputs) (outputs_computed m s m.outputs 0 (owed s a).outputs);
+  computed = λ s a. all_append (Computed s) (map (λ d. length_tree d.extents) m.inputs) (map (λ o. length_tree (output_extents m o)) m.outputs)
+      (inputs_computed m s m.inputs (owed s a).inputs) (outputs_computed m s m.outputs 0 (owed s a).outputs);
   numbers = λ s a. numbers_are m s (owed s a);
 }
 
@@ -279,12 +304,16 @@ is_correct m owed s a ts h n memory held =
     let empty : n.scratch ≡ [] = no_entries n.scratch memory.scratch in
     let ws = map (λ o. word_count (output_dims m s o)) m.outputs in
     let all_lengths : map length n.inputs ++ map length n.outputs ≡ map word_count (input_extents_at m s) ++ ws =
-    sym (map-append length n.inputs n.outputs) ∙ ap (map length) (append-nothing (n.inputs ++ n.outputs)) ∙ ap (λ z. map length (n.inputs ++ n.outputs ++ z)) (sym empty) ∙ memory.lengths ∙ numbers_are m s o in
+    sym (map-append length n.inputs n.outputs) ∙ ap (map length) (append-nothing (n.inputs ++ n.outputs))
+        ∙ ap (λ z. map length (n.inputs ++ n.outputs ++ z)) (sym empty) ∙ memory.lengths ∙ numbers_are m s o in
     let many : length (map length n.inputs) ≡ length (map word_count (input_extents_at m s)) =
     length-map length n.inputs ∙ memory.inputs ∙ sym (length-map word_count (input_extents_at m s) ∙ length-map (λ d. extents_at d.extents s) m.inputs) in
-    let outs : map length n.outputs ≡ ws = second_parts (map length n.inputs) (map word_count (input_extents_at m s)) (map length n.outputs) ws many all_lengths in
+    let outs : map length n.outputs ≡ ws =
+        second_parts (map length n.inputs) (map word_count (input_extents_at m s)) (map length n.outputs) ws many all_lengths in
     let count : length n.outputs ≡ 0 + length m.outputs = omega (arith, memory.outputs) in
-    let prepared = outputs_prepared m s m.outputs 0 n count (λ i l. let z : 0 + i ≡ i = omega arith in ap (λ k. length (get_or n.outputs k [])) z ∙ sym (get_or-map_length n.outputs i) ∙ ap (λ v. get_or v i 0) outs) in
+    let prepared = outputs_prepared m s m.outputs 0 n count
+        (λ i l. let z : 0 + i ≡ i = omega arith in ap (λ k. length (get_or n.outputs k [])) z ∙ sym (get_or-map_length n.outputs i)
+        ∙ ap (λ v. get_or v i 0) outs) in
     let t = inputs_bound m.inputs s ts in
     let r = program_runs m s t m.outputs 0 n o.start o.outputs prepared (inputs_held m s ts n h held) in
     record {
@@ -293,7 +322,8 @@ is_correct m owed s a ts h n memory held =
       outputs =
           same_list [] r.after.outputs (map flat (module_den m s ts))
           (r.many ∙ memory.outputs ∙ sym (length-map flat (module_den m s ts) ∙ length-map (λ o. den o.term s [] t) m.outputs))
-          (λ i l. let z : i ≡ 0 + i = omega arith in ap (λ k. get_or r.after.outputs k []) z ∙ delivered_at m s t m.outputs 0 i r.after r.delivered (omega (arith, r.many, memory.outputs)));
+          (λ i l. let z : i ≡ 0 + i = omega arith in ap (λ k. get_or r.after.outputs k []) z
+              ∙ delivered_at m s t m.outputs 0 i r.after r.delivered (omega (arith, r.many, memory.outputs)));
       inputs_kept = r.inputs;
       scratch_kept = no_entries r.after.scratch (r.scratch ∙ memory.scratch) ∙ sym empty;
     }

@@ -1,5 +1,6 @@
 -- The loops of a term leave what it denotes, for any site, any frames and any mode.
-use Rattle.std.proofs.Common.{◌≡◌, ℕ, zero, suc, ◌+◌, ◌*◌, ◌%◌, ◌^◌, ◌<◌, ◌≤◌, List, [], ◌∷◌, ◌++◌, length, get_or, set, Some, None, ℤ, pos, negsuc, ◌+ℤ◌, false, if◌then◌else◌, nat_lt, refl, sym, ap, ◌∙◌, subst, arith, length-append, append_assoc}
+use Rattle.std.proofs.Common.{◌≡◌, ℕ, zero, suc, ◌+◌, ◌*◌, ◌%◌, ◌^◌, ◌<◌, ◌≤◌, List, [], ◌∷◌, ◌++◌, length, get_or, set, Some, None, ℤ, pos, negsuc, ◌+ℤ◌}
+use Rattle.std.proofs.Common.{false, if◌then◌else◌, nat_lt, refl, sym, ap, ◌∙◌, subst, arith, length-append, append_assoc}
 use Rattle.std.proofs.lemmas.List.{append-nil, get_or_append_left, get_or_at}
 use Rattle.std.proofs.Math.Nat.{mod-eq_of_lt, mod-lt}
 use Rattle.affine_index.specs.declared.form.Items.{Items}
@@ -15,7 +16,8 @@ use Rattle.loop_lang.specs.declared.word.Buf.{Buf}
 use Rattle.loop_lang.specs.declared.word.Wexp.{Wexp}
 use Rattle.loop_lang.specs.declared.stmt.Stmt.TheVariants.{Seq}
 use Rattle.loop_lang.specs.Reckoning.{Value, reckon}
-use Rattle.loop_lang.specs.Actions.{Tree, Sum, Product, Whole, Mode, Puts, Adds, Action, Store, grow, grown_from, grown_of_two, then_follow, turns, turns_below, store, store_at, acts, acts_all}
+use Rattle.loop_lang.specs.Actions.{Tree, Sum, Product, Whole, Mode, Puts, Adds, Action, Store, grow, grown_from, grown_of_two, then_follow, turns, turns_below}
+use Rattle.loop_lang.specs.Actions.{store, store_at, acts, acts_all}
 use Rattle.loop_lang.specs.Actions.{Word as TreeWord, At as TreeAt}
 use Rattle.loop_lang.specs.Memory.{Memory, Found, stored, word_of, word_of_two}
 use Rattle.loop_lang.proofs.WordForms.{word_sum-is, word_product-is}
@@ -23,7 +25,8 @@ use Rattle.loop_lang.proofs.Statements.{acts-seq, acts-for, acts-put, acts-add_t
 use Rattle.lowering.specs.IndexTree.{index_tree}
 use Rattle.lowering.specs.Frames.{Frame, Fix, Transpose, Flatten, Split, Shift, Keep, Placing, under, moved_to, send, indices_after}
 use Rattle.lowering.specs.declared.reads.Read.{Read}
-use Rattle.lowering.specs.Lowered.{Site, nowhere, place_tree, indexed, Worded, stored_by, leaf, Parts, of_word, of_read, parts_step, parts_of, read_of, word_loops, term_loops}
+use Rattle.lowering.specs.Lowered.{Site, nowhere, place_tree, indexed, Worded, stored_by, leaf, Parts, of_word, of_read, parts_step, parts_of, read_of}
+use Rattle.lowering.specs.Lowered.{word_loops, term_loops}
 use Rattle.lowering.specs.Scatter.{add_at, scatter}
 use Rattle.lowering.proofs.Algebra.{ext, Within, Words, length-scatter, Words-scatter, scatter_turns, scatter-rows}
 use Rattle.lowering.proofs.RowOrder.{place, place_lt, length-flat, At, word_at}
@@ -62,7 +65,8 @@ moved_more (negsuc i) f g ix h = refl
 -- a loop further in does not change where frames send
 send_more : (es s r : List ℕ) (j : ℕ) (fs : List Frame) (ix : List ℕ) → FramesBelow (length r) fs → send es s (r ++ j ∷ []) fs ix ≡ send es s r fs ix
 send_more es s r j [] ix b = refl
-send_more es s r j (Fix k ∷ fs) ix b = ap (λ i. send es s (r ++ j ∷ []) fs (i ∷ ix)) (get_or_append_left r (j ∷ []) 0 k b.0) ∙ send_more es s r j fs (get_or r k 0 ∷ ix) b.1
+send_more es s r j (Fix k ∷ fs) ix b = ap (λ i. send es s (r ++ j ∷ []) fs (i ∷ ix)) (get_or_append_left r (j ∷ []) 0 k b.0)
+    ∙ send_more es s r j fs (get_or r k 0 ∷ ix) b.1
 send_more es s r j (Transpose ∷ fs) [] b = refl
 send_more es s r j (Transpose ∷ fs) (x ∷ []) b = refl
 send_more es s r j (Transpose ∷ fs) (x ∷ y ∷ ix) b = send_more es s r j fs (y ∷ x ∷ ix) b
@@ -72,7 +76,8 @@ send_more es s r j (Flatten m ∷ fs) (x ∷ y ∷ ix) b = send_more es s r j fs
 send_more es s r j (Split k ∷ fs) [] b = refl
 send_more es s r j (Split k ∷ fs) (x ∷ ix) b = send_more es s r j fs _ b
 send_more es s r j (Shift a ∷ fs) [] b = refl
-send_more es s r j (Shift a ∷ fs) (x ∷ ix) b = moved_more (pos x +ℤ items_value s [] a) (send es s (r ++ j ∷ []) fs) (send es s r fs) ix (λ jx. send_more es s r j fs jx b)
+send_more es s r j (Shift a ∷ fs) (x ∷ ix) b =
+    moved_more (pos x +ℤ items_value s [] a) (send es s (r ++ j ∷ []) fs) (send es s r fs) ix (λ jx. send_more es s r j fs jx b)
 send_more es s r j (Keep m ∷ fs) [] b = refl
 send_more es s r j (Keep m ∷ fs) (x ∷ ix) b = ap (λ v. if nat_lt x (count_of (items_value s [] m)) then v else None) (send_more es s r j fs (x ∷ ix) b)
 
@@ -106,7 +111,8 @@ module _ (s : List ℕ) (xs : List Site) (ar : List Area) (ex : List (List ℕ))
   Values (x ∷ is) y [] = ⊥
   Values (x ∷ is) y (i ∷ ix) = (items_value s y x ≡ pos i) × Values is y ix
 
-  -- the read is in range, and its printed place is its place; `is` are the indices around the term, r the loop variables from the outermost, y the index variables from the innermost
+  -- the read is in range, and its printed place is its place; `is` are the indices around the term, r the loop variables from the outermost, y the index
+  -- variables from the innermost
   abbrev pub ReadFits : Term → List Items → List ℕ → List ℕ → Type 0
   ReadFits (TVar q) is r y =
       (q < length ex) × ((ix : List ℕ) × Values is y ix × Within (get_or ex q []) ix
@@ -125,7 +131,8 @@ module _ (s : List ℕ) (xs : List Site) (ar : List Area) (ex : List (List ℕ))
   -- at a leaf no frame drops, and the printed place is the place
   abbrev pub LeafFits : Term → List ℕ → List ℕ → List Frame → Site → Area → List ℕ → Type 0
   LeafFits e r y fs b T es =
-      WordFits e r y × ((p : ℕ) × (send es s r fs [] ≡ Some p) × (reckon (place_tree (length r) b (indices_after (length r) fs [])) s r ≡ Value (pos (base T + p))))
+      WordFits e r y × ((p : ℕ) × (send es s r fs [] ≡ Some p)
+          × (reckon (place_tree (length r) b (indices_after (length r) fs [])) s r ≡ Value (pos (base T + p))))
 
   -- what is owed to the loops of a term of extents ds: each bound is computed, and each leaf that is reached fits
   abbrev pub Fits : Term → List ℕ → List ℕ → List ℕ → List Frame → Site → Area → List ℕ → Type 0
@@ -152,7 +159,8 @@ module _ (s : List ℕ) (xs : List Site) (ar : List Area) (ex : List (List ℕ))
     pub held : Held t T k m
     pub free : k ≤ length (region m)
 
-  pub state_after : (T : Area) (k : ℕ) (es : List ℕ) (t : List Bound) (m n : Memory) (ws : List ℕ) → State T k es t m → length ws ≡ length (part m T) → Words ws → Leaves T k m ws n → State T k es t n
+  pub state_after : (T : Area) (k : ℕ) (es : List ℕ) (t : List Bound) (m n : Memory) (ws : List ℕ) → State T k es t m → length ws ≡ length (part m T) → Words ws
+      → Leaves T k m ws n → State T k es t n
   state_after T k es t m n ws st h w p = record {
     target = target_after T k m n ws st.target p;
     long = ap length p.there ∙ h ∙ st.long;
@@ -182,7 +190,8 @@ module _ (s : List ℕ) (xs : List Site) (ar : List Area) (ex : List (List ℕ))
     reckons : reckon (place_tree (length r) (get_or xs var nowhere) (before ++ is)) s r ≡ Value place
     gives : word_of (TreeAt (get_or xs var nowhere).buffer place) m ≡ Found word
 
-  index_read : (e : Term) (x : Items) (is : List Items) (r y : List ℕ) (t : List Bound) (m : Memory) (p : ReadIs e (x ∷ is) r y t m) (ix : List ℕ) → Values (x ∷ is) y ix → At (den e s y t) ix p.word → ReadIs (index e x) is r y t m
+  index_read : (e : Term) (x : Items) (is : List Items) (r y : List ℕ) (t : List Bound) (m : Memory) (p : ReadIs e (x ∷ is) r y t m) (ix : List ℕ)
+      → Values (x ∷ is) y ix → At (den e s y t) ix p.word → ReadIs (index e x) is r y t m
   index_read e x is r y t m p [] v a = absurd v
   index_read e x is r y t m p (i ∷ ix) v a =
       let z = zeros (tail_of (dims e s (extents_of t))) in
@@ -203,7 +212,8 @@ module _ (s : List ℕ) (xs : List Site) (ar : List Area) (ex : List (List ℕ))
         gives = p.gives;
       }
 
-  read : (e : Term) (is : List Items) (r y : List ℕ) (t : List Bound) (T : Area) (k : ℕ) (m : Memory) → ReadFits e is r y → Held t T k m → k ≤ length (region m) → ReadIs e is r y t m
+  read : (e : Term) (is : List Items) (r y : List ℕ) (t : List Bound) (T : Area) (k : ℕ) (m : Memory) → ReadFits e is r y → Held t T k m → k ≤ length (region m)
+      → ReadIs e is r y t m
   read (TVar q) is r y t T k m h g free =
       let dq = get_or ex q [] in
       let ix = h.1.0 in
@@ -260,7 +270,8 @@ module _ (s : List ℕ) (xs : List Site) (ar : List Area) (ex : List (List ℕ))
     pub gives : word_of tree m ≡ Found word
     pub stores : term_loops e ≡ leaf (word_loops e)
 
-  read_word : (e : Term) (r y : List ℕ) (t : List Bound) (m : Memory) (p : ReadIs e [] r y t m) (ix : List ℕ) → Values [] y ix → At (den e s y t) ix p.word → Cell e r y t m
+  read_word : (e : Term) (r y : List ℕ) (t : List Bound) (m : Memory) (p : ReadIs e [] r y t m) (ix : List ℕ) → Values [] y ix → At (den e s y t) ix p.word
+      → Cell e r y t m
   read_word e r y t m p (i ∷ ix) v a = absurd v
   read_word e r y t m p [] v a = record {
     word = p.word;
@@ -269,7 +280,8 @@ module _ (s : List ℕ) (xs : List Site) (ar : List Area) (ex : List (List ℕ))
     tree = TreeAt (get_or xs p.var nowhere).buffer p.place;
     grows =
         ap (λ q. grow (q.word xs (length r)) s r) p.parts
-        ∙ ap (λ l. grown_from (reckon (place_tree (length r) (get_or xs p.var nowhere) l) s r) (TreeAt (get_or xs p.var nowhere).buffer)) (sym (append-nil p.before))
+        ∙ ap (λ l. grown_from (reckon (place_tree (length r) (get_or xs p.var nowhere) l) s r) (TreeAt (get_or xs p.var nowhere).buffer))
+            (sym (append-nil p.before))
         ∙ ap (λ v. grown_from v (TreeAt (get_or xs p.var nowhere).buffer)) p.reckons;
     gives = p.gives;
     stores = leaf_of_read (parts_of e) (record { var = p.var; indices = p.before }) p.parts;
@@ -339,7 +351,8 @@ module _ (s : List ℕ) (xs : List Site) (ar : List Area) (ex : List (List ℕ))
   leaf_shape : (e : Term) (r y : List ℕ) (t : List Bound) (m : Memory) → Cell e r y t m → Denotes e [] y t
   leaf_shape e r y t m c = (subst (HasShape []) (sym c.means) tt, subst HasWords (sym c.means) c.small)
 
-  pub den_shape : (e : Term) (ds r y : List ℕ) (fs : List Frame) (b : Site) (T : Area) (es : List ℕ) (t : List Bound) (k : ℕ) (m : Memory) → Fits e ds r y fs b T es → Held t T k m → k ≤ length (region m) → Denotes e ds y t
+  pub den_shape : (e : Term) (ds r y : List ℕ) (fs : List Frame) (b : Site) (T : Area) (es : List ℕ) (t : List Bound) (k : ℕ) (m : Memory)
+      → Fits e ds r y fs b T es → Held t T k m → k ≤ length (region m) → Denotes e ds y t
   den_shape (gen n e) [] r y fs b T es t k m h g free = absurd h
   den_shape (gen n e) (d ∷ ds) r y fs b T es t k m h g free =
       let rows : (j : ℕ) → j < d → Denotes e ds (j ∷ y) t = λ j l. den_shape e ds (r ++ j ∷ []) (j ∷ y) (Fix (length r) ∷ fs) b T es t k m (h.2 j l) g free in
@@ -352,13 +365,15 @@ module _ (s : List ℕ) (xs : List Site) (ar : List Area) (ex : List (List ℕ))
   abbrev pub RightBy : (Term → List ℕ → List ℕ → List ℕ → List Frame → Site → Area → List ℕ → Type 0) → Term → List ℕ → Type 0
   RightBy P e ds =
       (r y : List ℕ) (fs : List Frame) (f : Placing) (o : Mode) (k : ℕ) (b : Site) (T : Area) (es : List ℕ) (t : List Bound) (m : Memory)
-      → send es s r fs ≡ f → FramesBelow (length r) fs → b.buffer ≡ buffer_of T → P e ds r y fs b T es → Injective ds f → InRange ds f (word_count es) → State T k es t m
+      → send es s r fs ≡ f → FramesBelow (length r) fs → b.buffer ≡ buffer_of T → P e ds r y fs b T es → Injective ds f → InRange ds f (word_count es)
+          → State T k es t m
       → Clear o ds f (part m T) → Does (acts_all (term_loops e xs b fs (length r) o) s r) T k m (scatter (den e s y t) f (part m T))
 
   abbrev pub Right : Term → List ℕ → Type 0
   Right = RightBy Fits
 
-  mixes : (o : Mode) (f : Placing) (p x : ℕ) (ws : List ℕ) → f [] ≡ Some p → Clear o [] f ws → x < 2 ^ 64 → stored o (get_or ws p 0) x ≡ (get_or ws p 0 + x) % 2 ^ 64
+  mixes : (o : Mode) (f : Placing) (p x : ℕ) (ws : List ℕ) → f [] ≡ Some p → Clear o [] f ws → x < 2 ^ 64
+      → stored o (get_or ws p 0) x ≡ (get_or ws p 0 + x) % 2 ^ 64
   mixes Adds f p x ws e h l = refl
   mixes Puts f p x ws e h l =
       let z : x ≡ get_or ws p 0 + x = omega (arith, h [] p tt e) in
@@ -379,8 +394,10 @@ module _ (s : List ℕ) (xs : List Site) (ar : List Area) (ex : List (List ℕ))
       ∙ ap (λ v. then_follow (store_at o b.buffer w.tree v) []) fits.1.2
       ∙ ap (λ v. Store o v w.tree (pos (base T + p)) ∷ []) buf in
       let leaves : set (part m T) p (stored o (get_or (part m T) p 0) w.word) ≡ scatter (den e s y t) f (part m T) =
-      ap (set (part m T) p) (mixes o f p w.word (part m T) at clear w.small) ∙ ap (λ q. add_at q w.word (part m T)) (sym at) ∙ ap (λ u. scatter u f (part m T)) (sym w.means) in
-      subst (λ zs. Does zs T k m (scatter (den e s y t) f (part m T))) (sym acts_are) (subst (Does (Store o (buffer_of T) w.tree (pos (base T + p)) ∷ []) T k m) leaves one)
+      ap (set (part m T) p) (mixes o f p w.word (part m T) at clear w.small) ∙ ap (λ q. add_at q w.word (part m T)) (sym at)
+          ∙ ap (λ u. scatter u f (part m T)) (sym w.means) in
+      subst (λ zs. Does zs T k m (scatter (den e s y t) f (part m T))) (sym acts_are)
+          (subst (Does (Store o (buffer_of T) w.tree (pos (base T + p)) ∷ []) T k m) leaves one)
 
   gen_right : (n : Items) (e : Term) (d : ℕ) (ds : List ℕ) → Right e ds → Right (gen n e) (d ∷ ds)
   gen_right n e d ds ih r y fs f o k b T es t m φ below buf fits inj inside st clear =
@@ -401,23 +418,28 @@ module _ (s : List ℕ) (xs : List Site) (ar : List Area) (ex : List (List ℕ))
       rows_are : scatter (den (gen n e) s y t) f (part m T) ≡ scatter_turns 0 d g f (part m T)
       rows_are =
           ap (λ c. scatter (from_rows (tabulate c g)) f (part m T)) fits.0
-          ∙ scatter-rows d 0 g g f f (part m T) (λ j. let z : j ≡ 0 + j = omega arith in ap g z) (λ j ix. let z : j ≡ 0 + j = omega arith in ap (λ i. f (i ∷ ix)) z)
+          ∙ scatter-rows d 0 g g f f (part m T) (λ j. let z : j ≡ 0 + j = omega arith in ap g z)
+              (λ j ix. let z : j ≡ 0 + j = omega arith in ap (λ i. f (i ∷ ix)) z)
 
       acts_are : acts_all (term_loops (gen n e) xs b fs (length r) o) s r ≡ then_follow (turns 0 d items) []
       acts_are =
           ap (λ p. acts_all (p.loops xs b fs (length r) o) s r) (fold-gen Parts parts_step n e)
           ∙ ap (λ l. then_follow l []) (acts-for (index_tree (length r) n) false (Seq (term_loops e xs b (Fix (length r) ∷ fs) (length r + 1) o)) s r)
-          ∙ ap (λ l. then_follow (turns_below (reckon (index_tree (length r) n) s r) l) []) (λ i j. acts-seq (term_loops e xs b (Fix (length r) ∷ fs) (length r + 1) o) s (r ++ j ∷ []) i)
+          ∙ ap (λ l. then_follow (turns_below (reckon (index_tree (length r) n) s r) l) [])
+              (λ i j. acts-seq (term_loops e xs b (Fix (length r) ∷ fs) (length r + 1) o) s (r ++ j ∷ []) i)
           ∙ ap (λ v. then_follow (turns_below v items) []) fits.1
 
-      step : (j : ℕ) (m : Memory) → j < d → P j m → Does (items j) T k m (scatter (g j) (under j f) (part m T)) × ((a : Memory) → Leaves T k m (scatter (g j) (under j f) (part m T)) a → P (j + 1) a)
+      step : (j : ℕ) (m : Memory) → j < d → P j m → Does (items j) T k m (scatter (g j) (under j f) (part m T))
+          × ((a : Memory) → Leaves T k m (scatter (g j) (under j f) (part m T)) a → P (j + 1) a)
       step j m l h =
           let long : length (r ++ j ∷ []) ≡ length r + 1 = omega (arith, length-append r (j ∷ [])) in
           let more : length r ≤ length (r ++ j ∷ []) = omega arith in
           let here : length r < length (r ++ j ∷ []) = omega arith in
           let shape = den_shape e ds (r ++ j ∷ []) (j ∷ y) (Fix (length r) ∷ fs) b T es t k m (fits.2 j l) h.0.held h.0.free in
-          let row : Does (acts_all (term_loops e xs b (Fix (length r) ∷ fs) (length (r ++ j ∷ [])) o) s (r ++ j ∷ [])) T k m (scatter (g j) (under j f) (part m T)) =
-          ih (r ++ j ∷ []) (j ∷ y) (Fix (length r) ∷ fs) (under j f) o k b T es t m (send_fix es s r j fs below ∙ ap (under j) φ) (here, frames_more (length r) (length (r ++ j ∷ [])) fs more below) buf (fits.2 j l)
+          let row : Does (acts_all (term_loops e xs b (Fix (length r) ∷ fs) (length (r ++ j ∷ [])) o) s (r ++ j ∷ [])) T k m
+              (scatter (g j) (under j f) (part m T)) =
+          ih (r ++ j ∷ []) (j ∷ y) (Fix (length r) ∷ fs) (under j f) o k b T es t m (send_fix es s r j fs below ∙ ap (under j) φ)
+              (here, frames_more (length r) (length (r ++ j ∷ [])) fs more below) buf (fits.2 j l)
           (λ ix jx p w v c e. let same : j ∷ ix ≡ j ∷ jx = inj (j ∷ ix) (j ∷ jx) p (l, w) (l, v) c e in cc)
           (λ ix p w c. inside (j ∷ ix) p (l, w) c) h.0 (clear_row o d ds f j (part m T) l h.1) in (
             subst (λ q. Does (acts_all (term_loops e xs b (Fix (length r) ∷ fs) q o) s (r ++ j ∷ [])) T k m (scatter (g j) (under j f) (part m T))) long row,

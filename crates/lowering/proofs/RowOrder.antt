@@ -1,5 +1,6 @@
 -- Row-order places: of two tuples within the extents they are different and below the number of words.
-use Rattle.std.proofs.Common.{◌≡◌, ℕ, zero, suc, ◌+◌, ◌*◌, ◌%◌, ◌^◌, ◌<◌, List, [], ◌∷◌, ◌++◌, length, get_or, set, replicate, Some, refl, sym, ap, ◌∙◌, subst, arith, length-append, append_assoc}
+use Rattle.std.proofs.Common.{◌≡◌, ℕ, zero, suc, ◌+◌, ◌*◌, ◌%◌, ◌^◌, ◌<◌, List, [], ◌∷◌, ◌++◌, length, get_or, set, replicate, Some, refl, sym, ap, ◌∙◌, subst}
+use Rattle.std.proofs.Common.{arith, length-append, append_assoc}
 use Rattle.std.proofs.lemmas.Nat.{mul-add-lt, same_from_place}
 use Rattle.std.proofs.Math.Nat.{mul_comm, mod-eq_of_lt}
 use Rattle.std.proofs.lemmas.List.{get_or-append-add, get_or_append_left, get_or_at, set_at, replicate-append-replicate, append-nil}
@@ -27,7 +28,8 @@ pub place_lt : (ds ix : List ℕ) → Within ds ix → place ds ix < word_count 
 place_lt [] [] h = omega arith
 place_lt [] (i ∷ ix) h = absurd h
 place_lt (d ∷ ds) [] h = absurd h
-place_lt (d ∷ ds) (i ∷ ix) h = subst (λ n. i * word_count ds + place ds ix < n) (mul_comm (word_count ds) d) (mul-add-lt i (word_count ds) (place ds ix) d h.0 (place_lt ds ix h.1))
+place_lt (d ∷ ds) (i ∷ ix) h = subst (λ n. i * word_count ds + place ds ix < n) (mul_comm (word_count ds) d)
+    (mul-add-lt i (word_count ds) (place ds ix) d h.0 (place_lt ds ix h.1))
 
 pub place_inj : (ds ix jx : List ℕ) → Within ds ix → Within ds jx → place ds ix ≡ place ds jx → ix ≡ jx
 place_inj [] [] [] h k e = refl
@@ -73,7 +75,8 @@ row_words End i h = tt
 row_words (Row a rest) zero h = h.0
 row_words (Row a rest) (suc i) h = row_words rest i h.1
 
-row_at : (t : Tensor) (n : ℕ) (ds : List ℕ) (i q : ℕ) → HasShape (n ∷ ds) t → i < n → q < word_count ds → get_or (flat t) (i * word_count ds + q) 0 ≡ get_or (flat (get_or (rows_of t) i End)) q 0
+row_at : (t : Tensor) (n : ℕ) (ds : List ℕ) (i q : ℕ) → HasShape (n ∷ ds) t → i < n → q < word_count ds
+    → get_or (flat t) (i * word_count ds + q) 0 ≡ get_or (flat (get_or (rows_of t) i End)) q 0
 row_at t zero ds i q h l k = absurd (omega arith)
 row_at (Word w) (suc n) ds i q h l k = absurd h
 row_at End (suc n) ds i q h l k = absurd h
@@ -90,7 +93,8 @@ abbrev pub At : Tensor → List ℕ → ℕ → Type 0
 At t [] w = t ≡ Word w
 At t (i ∷ ix) w = (i < length (rows_of t)) × At (get_or (rows_of t) i End) ix w
 
-pub word_at : (ds ix : List ℕ) (t : Tensor) → HasShape ds t → HasWords t → Within ds ix → At t ix (get_or (flat t) (place ds ix) 0) × (get_or (flat t) (place ds ix) 0 < 2 ^ 64)
+pub word_at : (ds ix : List ℕ) (t : Tensor) → HasShape ds t → HasWords t → Within ds ix → At t ix (get_or (flat t) (place ds ix) 0)
+    × (get_or (flat t) (place ds ix) 0 < 2 ^ 64)
 word_at [] [] (Word w) h g k = (refl, g)
 word_at [] [] End h g k = absurd h
 word_at [] [] (Row a rest) h g k = absurd h
@@ -114,10 +118,12 @@ later_placed at n ds = ext one
     one (i ∷ ix) = let e : at + suc i * word_count ds ≡ at + word_count ds + i * word_count ds = omega arith in ap (λ p. placed p ds ix) e
 
 -- a tensor scattered into zeros is its flat list
-scatter_flat : (t : Tensor) (ds pre post : List ℕ) → HasShape ds t → HasWords t → scatter t (placed (length pre) ds) (pre ++ (replicate (word_count ds) 0 ++ post)) ≡ pre ++ (flat t ++ post)
+scatter_flat : (t : Tensor) (ds pre post : List ℕ) → HasShape ds t → HasWords t
+    → scatter t (placed (length pre) ds) (pre ++ (replicate (word_count ds) 0 ++ post)) ≡ pre ++ (flat t ++ post)
 scatter_flat (Word w) [] pre post h g =
     let v : get_or (pre ++ 0 ∷ post) (length pre) 0 + w ≡ w = omega (arith, get_or_at pre 0 post 0 (length pre) refl) in
-    ap (λ x. set (pre ++ 0 ∷ post) (length pre) (x % 2 ^ 64)) v ∙ ap (set (pre ++ 0 ∷ post) (length pre)) (mod-eq_of_lt g) ∙ set_at pre 0 post w (length pre) refl
+    ap (λ x. set (pre ++ 0 ∷ post) (length pre) (x % 2 ^ 64)) v ∙ ap (set (pre ++ 0 ∷ post) (length pre)) (mod-eq_of_lt g)
+        ∙ set_at pre 0 post w (length pre) refl
 scatter_flat (Word w) (zero ∷ ds) pre post h g = absurd h
 scatter_flat (Word w) (suc n ∷ ds) pre post h g = absurd h
 scatter_flat End [] pre post h g = absurd h
@@ -130,7 +136,8 @@ scatter_flat (Row a rest) (suc n ∷ ds) pre post h g =
     let behind = replicate (n * wc) 0 ++ post in
     let z : wc + n * wc ≡ suc n * wc = omega arith in
     let zs : replicate (suc n * wc) 0 ++ post ≡ replicate wc 0 ++ behind =
-    ap (λ k. replicate k 0 ++ post) (sym z) ∙ ap (λ l. l ++ post) (sym (replicate-append-replicate wc (n * wc) 0)) ∙ append_assoc (replicate wc 0) (replicate (n * wc) 0) post in
+    ap (λ k. replicate k 0 ++ post) (sym z) ∙ ap (λ l. l ++ post) (sym (replicate-append-replicate wc (n * wc) 0))
+        ∙ append_assoc (replicate wc 0) (replicate (n * wc) 0) post in
     let len : length pre + wc ≡ length (pre ++ flat a) = omega (arith, length-append pre (flat a), length-flat a ds h.0) in
     (λ i. scatter rest (later (placed (length pre) (suc n ∷ ds))) (scatter a (under_placed (length pre) (suc n) ds i) (pre ++ zs i)))
     ∙ ap (scatter rest (later (placed (length pre) (suc n ∷ ds)))) (scatter_flat a ds pre behind h.0 g.0 ∙ sym (append_assoc pre (flat a) behind))

@@ -33,11 +33,15 @@ scaling = gen (size_form 0) (mul (index (TVar 0) (var_form 0)) (Lit 2))
 read_parts : parts_of (index (TVar 0) (var_form 0)) ≡ parts_step (Term-F.Index (parts_step (Term-F.TVar 0)) (var_form 0))
 read_parts = fold-index Parts parts_step (TVar 0) (var_form 0) ∙ ap (λ p. parts_step (Term-F.Index p (var_form 0))) (fold-t_var Parts parts_step 0)
 
-scaling_parts : parts_of scaling ≡ parts_step (Term-F.Gen (size_form 0) (parts_step (Term-F.Mul (parts_step (Term-F.Index (parts_step (Term-F.TVar 0)) (var_form 0))) (parts_step (Term-F.Lit 2)))))
+scaling_parts : parts_of scaling ≡ parts_step
+    (Term-F.Gen (size_form 0) (parts_step (Term-F.Mul (parts_step (Term-F.Index (parts_step (Term-F.TVar 0)) (var_form 0))) (parts_step (Term-F.Lit 2)))))
 scaling_parts =
     fold-gen Parts parts_step (size_form 0) (mul (index (TVar 0) (var_form 0)) (Lit 2))
-    ∙ ap (λ p. parts_step (Term-F.Gen (size_form 0) p)) (fold-mul Parts parts_step (index (TVar 0) (var_form 0)) (Lit 2) ∙ (λ i. parts_step (Term-F.Mul (read_parts i) (fold-lit Parts parts_step 2 i))))
+    ∙ ap (λ p. parts_step (Term-F.Gen (size_form 0) p))
+        (fold-mul Parts parts_step (index (TVar 0) (var_form 0)) (Lit 2) ∙ (λ i. parts_step (Term-F.Mul (read_parts i) (fold-lit Parts parts_step 2 i))))
 
-scaling_loops : term_loops scaling (record { buffer = Input 0; offset = literal_form (pos 0); extents = size_form 0 ∷ [] } ∷ []) (nest_site 0 (size_form 0 ∷ [])) [] 0 Puts
+scaling_loops : term_loops scaling (record { buffer = Input 0; offset = literal_form (pos 0); extents = size_form 0 ∷ [] } ∷ [])
+    (nest_site 0 (size_form 0 ∷ [])) [] 0 Puts
     ≡ For (tree.Size 0) false (Seq (Put (Output 0) (tree.Loop 0) (word.Mul (word.Load (Input 0) (tree.Loop 0)) (word.Lit 2)) ∷ [])) ∷ []
-scaling_loops = ap (λ p. p.loops (record { buffer = Input 0; offset = literal_form (pos 0); extents = size_form 0 ∷ [] } ∷ []) (nest_site 0 (size_form 0 ∷ [])) [] 0 Puts) scaling_parts ∙ simp form_rows
+scaling_loops = ap (λ p. p.loops (record { buffer = Input 0; offset = literal_form (pos 0); extents = size_form 0 ∷ [] } ∷ []) (nest_site 0 (size_form 0 ∷ []))
+    [] 0 Puts) scaling_parts ∙ simp form_rows

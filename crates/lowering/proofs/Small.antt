@@ -1,5 +1,6 @@
 -- What a module of the small form is owed: its lengths, bounds, places and reads.
-use Rattle.std.proofs.Common.{◌≡◌, ℕ, zero, suc, ◌+◌, ◌-◌, ◌<◌, ◌≤◌, List, [], ◌∷◌, ◌++◌, length, get_or, take, Some, pos, map, refl, sym, ap, ◌∙◌, subst, arith, length-append, append_assoc}
+use Rattle.std.proofs.Common.{◌≡◌, ℕ, zero, suc, ◌+◌, ◌-◌, ◌<◌, ◌≤◌, List, [], ◌∷◌, ◌++◌, length, get_or, take, Some, pos, map, refl, sym, ap, ◌∙◌, subst}
+use Rattle.std.proofs.Common.{arith, length-append, append_assoc}
 use Rattle.std.specs.Prelude.{All, slice_get}
 use Rattle.std.proofs.lemmas.List.{append-nil, get_or_append_left, get_or_at, take_all}
 use Rattle.std.proofs.Math.Seq.{take-suc}
@@ -78,14 +79,16 @@ outer_vars (suc d) r h =
 -- the indices of a nest's leaf
 pub nest_indices : (loops d : ℕ) (xs : List Items) → indices_after loops (nest_frames d) xs ≡ outer_variables loops d ++ xs
 nest_indices loops zero xs = refl
-nest_indices loops (suc d) xs = nest_indices loops d (var_form (loops - 1 - d) ∷ xs) ∙ sym (append_assoc (outer_variables loops d) (var_form (loops - 1 - d) ∷ []) xs)
+nest_indices loops (suc d) xs = nest_indices loops d (var_form (loops - 1 - d) ∷ xs)
+    ∙ sym (append_assoc (outer_variables loops d) (var_form (loops - 1 - d) ∷ []) xs)
 
 -- where the frames of a nest send
 nest_sends : (es s r : List ℕ) (d : ℕ) (ix : List ℕ) → d ≤ length r → send es s r (nest_frames d) ix ≡ placed 0 es (take d r ++ ix)
 nest_sends es s r zero ix h = refl
 nest_sends es s r (suc d) ix h =
     let l : d < length r = omega arith in
-    nest_sends es s r d (get_or r d 0 ∷ ix) (omega arith) ∙ ap (placed 0 es) (sym (append_assoc (take d r) (get_or r d 0 ∷ []) ix) ∙ ap (λ l. l ++ ix) (sym (take-suc r d 0 l)))
+    nest_sends es s r d (get_or r d 0 ∷ ix) (omega arith)
+        ∙ ap (placed 0 es) (sym (append_assoc (take d r) (get_or r d 0 ∷ []) ix) ∙ ap (λ l. l ++ ix) (sym (take-suc r d 0 l)))
 
 all_at : {A : Type 0} (P : A → Type 0) (us : List A) (u d : A) (i : ℕ) → All P us → i < length us → P (get_or us i d)
 all_at P us u d i h l = h i d l
@@ -107,14 +110,16 @@ extents_last [] n s = refl
 extents_last (m ∷ ns) n s = ap (λ l. extent m s ∷ l) (extents_last ns n s)
 
 -- an entry of the inputs' lists
-pub site_is : (k : ℕ) (ds : List InputDecl) (q : ℕ) → q < length ds → get_or (sites_from k ds) q nowhere ≡ record { buffer = Input (k + q); offset = literal_form (pos 0); extents = get_or (map (λ d. d.extents) ds) q [] }
+pub site_is : (k : ℕ) (ds : List InputDecl) (q : ℕ) → q < length ds
+    → get_or (sites_from k ds) q nowhere ≡ record { buffer = Input (k + q); offset = literal_form (pos 0); extents = get_or (map (λ d. d.extents) ds) q [] }
 site_is k [] q l = absurd (omega arith)
 site_is k (d ∷ ds) zero l = let e : k ≡ k + 0 = omega arith in ap (λ j. record { buffer = Input j; offset = literal_form (pos 0); extents = d.extents }) e
 site_is k (d ∷ ds) (suc q) l =
     let e : k + 1 + q ≡ k + suc q = omega arith in
     site_is (k + 1) ds q (omega arith) ∙ ap (λ j. record { buffer = Input j; offset = literal_form (pos 0); extents = get_or (map (λ d. d.extents) ds) q [] }) e
 
-pub extents_is : (s : List ℕ) (ds : List InputDecl) (q : ℕ) → get_or (map (λ d. extents_at d.extents s) ds) q [] ≡ extents_at (get_or (map (λ d. d.extents) ds) q []) s
+pub extents_is : (s : List ℕ) (ds : List InputDecl) (q : ℕ)
+    → get_or (map (λ d. extents_at d.extents s) ds) q [] ≡ extents_at (get_or (map (λ d. d.extents) ds) q []) s
 extents_is s [] q = refl
 extents_is s (d ∷ ds) zero = refl
 extents_is s (d ∷ ds) (suc q) = extents_is s ds q
@@ -175,16 +180,19 @@ module _ (m : Module) (s : List ℕ) (rank : ℕ) (places : PlacesOf (length m.s
         vars = ((v, omega (arith, p.0, f.0), h.0.1, f.1 v p.0), rest.vars);
       }
 
-  read_fits : (gens : List Items) (e : Term) (xs : List Items) (r y : List ℕ) → SmallRead (input_shapes m) gens e xs → Facing r y → GensHold gens y → ReadFits s (input_sites m) areas held e xs r y
+  read_fits : (gens : List Items) (e : Term) (xs : List Items) (r y : List ℕ) → SmallRead (input_shapes m) gens e xs → Facing r y → GensHold gens y
+      → ReadFits s (input_sites m) areas held e xs r y
   read_fits gens (TVar q) xs r y h f g =
       let l : q < length m.inputs = omega (arith, h.0, length-shapes m.inputs) in
       let ds = get_or (input_shapes m) q [] in
       let one = indices gens xs ds r y h.1 f g in
       let z : 0 + q ≡ q = omega arith in
       let es : get_or held q [] ≡ extents_at ds s = extents_is s m.inputs q in
-      let reckons = places ds xs r one.ix (shape_at (All (IsSize (length m.sizes))) m.inputs q sized l) one.vars one.within (shape_at (λ ns. length ns ≤ rank) m.inputs q ranks l) in
+      let reckons = places ds xs r one.ix (shape_at (All (IsSize (length m.sizes))) m.inputs q sized l) one.vars one.within
+          (shape_at (λ ns. length ns ≤ rank) m.inputs q ranks l) in
       let start : base (get_or areas q (Out 0)) ≡ 0 = ap base (area_at 0 m.inputs q l) in
-      let there : place (extents_at ds s) one.ix ≡ base (get_or areas q (Out 0)) + place (get_or held q []) one.ix = omega (arith, start, ap (λ d. place d one.ix) es) in (
+      let there : place (extents_at ds s) one.ix ≡ base (get_or areas q (Out 0)) + place (get_or held q []) one.ix =
+          omega (arith, start, ap (λ d. place d one.ix) es) in (
         omega (arith, l, length-extents s m.inputs),
         (
           one.ix,
@@ -252,7 +260,8 @@ module _ (m : Module) (s : List ℕ) (rank : ℕ) (places : PlacesOf (length m.s
     abbrev pub Owed : Term → List ℕ → List ℕ → Type 0
     Owed e r y = Fits s (input_sites m) areas held e (extents_at (gens_of e) s) r y (nest_frames (length r)) target (Out j) (extents_at full s)
 
-    leaf_fits : (e : Term) (gens done : List Items) (r y : List ℕ) → gens_of e ≡ [] → WordFits s (input_sites m) areas held e r y → Passed gens done (gens_of e) r y → LeafFits s (input_sites m) areas held e r y (nest_frames (length r)) target (Out j) (extents_at full s)
+    leaf_fits : (e : Term) (gens done : List Items) (r y : List ℕ) → gens_of e ≡ [] → WordFits s (input_sites m) areas held e r y
+        → Passed gens done (gens_of e) r y → LeafFits s (input_sites m) areas held e r y (nest_frames (length r)) target (Out j) (extents_at full s)
     leaf_fits e gens done r y g h p =
         let all : full ≡ done = p.whole ∙ ap (λ l. done ++ l) g ∙ append-nil done in
         let es : extents_at full s ≡ extents_at done s = ap (λ l. extents_at l s) all in
@@ -266,16 +275,27 @@ module _ (m : Module) (s : List ℕ) (rank : ℕ) (places : PlacesOf (length m.s
           (
             0 + place (extents_at full s) r,
             nest_sends (extents_at full s) s r (length r) [] (omega arith) ∙ ap (placed 0 (extents_at full s)) whole ∙ placed-is 0 (extents_at full s) r w,
-            places full (indices_after (length r) (nest_frames (length r)) []) r r (subst (All (IsSize (length m.sizes))) (sym all) p.all_sizes) vars w few ∙ ap (λ k. Value (pos k)) start,
+            places full (indices_after (length r) (nest_frames (length r)) []) r r (subst (All (IsSize (length m.sizes))) (sym all) p.all_sizes) vars w few
+                ∙ ap (λ k. Value (pos k)) start,
           ),
         )
 
     word_nest : (e : Term) (gens done : List Items) (r y : List ℕ) → SmallWord (input_shapes m) gens e → Passed gens done (gens_of e) r y → Owed e r y
-    word_nest (Lit w) gens done r y h p = let o = word_fits gens (Lit w) r y h p.facing p.hold in subst (λ l. Fits s (input_sites m) areas held (Lit w) (extents_at l s) r y (nest_frames (length r)) target (Out j) (extents_at full s)) (sym o.0) (leaf_fits (Lit w) gens done r y o.0 o.1 p)
-    word_nest (TVar q) gens done r y h p = let o = word_fits gens (TVar q) r y h p.facing p.hold in subst (λ l. Fits s (input_sites m) areas held (TVar q) (extents_at l s) r y (nest_frames (length r)) target (Out j) (extents_at full s)) (sym o.0) (leaf_fits (TVar q) gens done r y o.0 o.1 p)
-    word_nest (index e x) gens done r y h p = let o = word_fits gens (index e x) r y h p.facing p.hold in subst (λ l. Fits s (input_sites m) areas held (index e x) (extents_at l s) r y (nest_frames (length r)) target (Out j) (extents_at full s)) (sym o.0) (leaf_fits (index e x) gens done r y o.0 o.1 p)
-    word_nest (add a b) gens done r y h p = let o = word_fits gens (add a b) r y h p.facing p.hold in subst (λ l. Fits s (input_sites m) areas held (add a b) (extents_at l s) r y (nest_frames (length r)) target (Out j) (extents_at full s)) (sym o.0) (leaf_fits (add a b) gens done r y o.0 o.1 p)
-    word_nest (mul a b) gens done r y h p = let o = word_fits gens (mul a b) r y h p.facing p.hold in subst (λ l. Fits s (input_sites m) areas held (mul a b) (extents_at l s) r y (nest_frames (length r)) target (Out j) (extents_at full s)) (sym o.0) (leaf_fits (mul a b) gens done r y o.0 o.1 p)
+    word_nest (Lit w) gens done r y h p = let o = word_fits gens (Lit w) r y h p.facing p.hold in
+        subst (λ l. Fits s (input_sites m) areas held (Lit w) (extents_at l s) r y (nest_frames (length r)) target (Out j) (extents_at full s)) (sym o.0)
+        (leaf_fits (Lit w) gens done r y o.0 o.1 p)
+    word_nest (TVar q) gens done r y h p = let o = word_fits gens (TVar q) r y h p.facing p.hold in
+        subst (λ l. Fits s (input_sites m) areas held (TVar q) (extents_at l s) r y (nest_frames (length r)) target (Out j) (extents_at full s)) (sym o.0)
+        (leaf_fits (TVar q) gens done r y o.0 o.1 p)
+    word_nest (index e x) gens done r y h p = let o = word_fits gens (index e x) r y h p.facing p.hold in
+        subst (λ l. Fits s (input_sites m) areas held (index e x) (extents_at l s) r y (nest_frames (length r)) target (Out j) (extents_at full s)) (sym o.0)
+        (leaf_fits (index e x) gens done r y o.0 o.1 p)
+    word_nest (add a b) gens done r y h p = let o = word_fits gens (add a b) r y h p.facing p.hold in
+        subst (λ l. Fits s (input_sites m) areas held (add a b) (extents_at l s) r y (nest_frames (length r)) target (Out j) (extents_at full s)) (sym o.0)
+        (leaf_fits (add a b) gens done r y o.0 o.1 p)
+    word_nest (mul a b) gens done r y h p = let o = word_fits gens (mul a b) r y h p.facing p.hold in
+        subst (λ l. Fits s (input_sites m) areas held (mul a b) (extents_at l s) r y (nest_frames (length r)) target (Out j) (extents_at full s)) (sym o.0)
+        (leaf_fits (mul a b) gens done r y o.0 o.1 p)
     word_nest (WordOf x) gens done r y h p = absurd h
     word_nest (gen n e) gens done r y h p = absurd h
     word_nest (sum n e) gens done r y h p = absurd h
@@ -291,10 +311,12 @@ module _ (m : Module) (s : List ℕ) (rank : ℕ) (places : PlacesOf (length m.s
     word_nest (pad_l n e) gens done r y h p = absurd h
     word_nest (pad_r n e) gens done r y h p = absurd h
 
-    pub nest_fits : (room : ℕ) (gens : List Items) (e : Term) (done : List Items) (r y : List ℕ) → NestFits (length m.sizes) (input_shapes m) room gens e → Passed gens done (gens_of e) r y → Owed e r y
+    pub nest_fits : (room : ℕ) (gens : List Items) (e : Term) (done : List Items) (r y : List ℕ) → NestFits (length m.sizes) (input_shapes m) room gens e
+        → Passed gens done (gens_of e) r y → Owed e r y
     nest_fits zero gens e done r y h p = word_nest e gens done r y h p
     nest_fits (suc room) gens (gen n e) done r y h p =
-        subst (λ l. Fits s (input_sites m) areas held (gen n e) (extents_at l s) r y (nest_frames (length r)) target (Out j) (extents_at full s)) (sym (gens-gen n e)) (
+        subst (λ l. Fits s (input_sites m) areas held (gen n e) (extents_at l s) r y (nest_frames (length r)) target (Out j) (extents_at full s))
+            (sym (gens-gen n e)) (
           refl,
           bound,
           λ i l.
@@ -306,7 +328,8 @@ module _ (m : Module) (s : List ℕ) (rank : ℕ) (places : PlacesOf (length m.s
                 within = subst (λ d. Within d (r ++ i ∷ [])) (sym (extents_last done n s)) (within_last (extents_at done s) (extent n s) r i p.within l);
                 whole = p.whole ∙ ap (λ l. done ++ l) (gens-gen n e) ∙ sym (append_assoc done (n ∷ []) (gens_of e));
               } in
-              subst (λ k. Fits s (input_sites m) areas held e (extents_at (gens_of e) s) (r ++ i ∷ []) (i ∷ y) (nest_frames k) target (Out j) (extents_at full s)) long
+              subst (λ k. Fits s (input_sites m) areas held e (extents_at (gens_of e) s) (r ++ i ∷ []) (i ∷ y) (nest_frames k) target (Out j)
+                  (extents_at full s)) long
               (nest_fits room (n ∷ gens) e (done ++ n ∷ []) (r ++ i ∷ []) (i ∷ y) h.1 next),
         )
       where

@@ -1,5 +1,6 @@
 -- A module of the small form has room: its places and lengths are sums of at most three products of at most three sizes and variables.
-use Rattle.std.proofs.Common.{◌≡◌, ℕ, zero, suc, ◌+◌, ◌*◌, ◌^◌, ◌≤◌, List, [], ◌∷◌, ◌++◌, length, get_or, map, Some, true, false, ◌||◌, ◌⊎◌, inl, inr, refl, sym, ap, ◌∙◌, subst, arith}
+use Rattle.std.proofs.Common.{◌≡◌, ℕ, zero, suc, ◌+◌, ◌*◌, ◌^◌, ◌≤◌, List, [], ◌∷◌, ◌++◌, length, get_or, map, Some, true, false, ◌||◌, ◌⊎◌, inl, inr, refl}
+use Rattle.std.proofs.Common.{sym, ap, ◌∙◌, subst, arith}
 use Rattle.std.specs.Prelude.{All, slice_get}
 use Rattle.std.specs.Int.RustNames.{unsigned_abs}
 use Rattle.std.proofs.lemmas.Bool.{and_from, and_right, le-leb}
@@ -26,7 +27,8 @@ use Rattle.term_tree.specs.Syntax.{index, gen, sum, guard, let_in, add, sub, mul
 use Rattle.term_tree.specs.Modules.{input_shapes}
 use Rattle.small_form.specs.SmallForm.{IsSize, ReadFits, WordFits, NestFits, IsSmall}
 use Rattle.lowering.specs.Nest.{gens_of, outer_variables}
-use Rattle.lowering.specs.Room.{InLimits, ProductInLimits, PlaceFromInLimits, PlaceInLimits, LengthFromInLimits, LengthInLimits, ReadOfInLimits, WordInLimits, NestInLimits, HasRoom}
+use Rattle.lowering.specs.Room.{InLimits, ProductInLimits, PlaceFromInLimits, PlaceInLimits, LengthFromInLimits, LengthInLimits, ReadOfInLimits, WordInLimits}
+use Rattle.lowering.specs.Room.{NestInLimits, HasRoom}
 use Rattle.lowering.proofs.Few.{Plain, Nice, NiceForm, nice_more, nice_once, nice_sum, nice_times}
 use Rattle.lowering.proofs.Formed.{VarsBelow, outer_below, indices_below, read_is}
 use Rattle.lowering.proofs.Third.{size_alone, var_alone}

@@ -3,7 +3,8 @@ use Rattle.std.proofs.Common.{◌≡◌, ℕ, ◌^◌, List, [], ◌∷◌, refl
 use Rattle.std.specs.Prelude.{ℤ, pos, negsuc}
 use Rattle.std.proofs.lemmas.Bool.{and_from, and_parts}
 use Rattle.affine_index.specs.Every.{atoms_every, terms_every}
-use Rattle.affine_index.specs.Normal.{atom_good, atom_is_ordered, is_normal, is_ordered, items_good, all_remainders, is_remainder, coefficient_fits, coefficients_fit, terms_fit}
+use Rattle.affine_index.specs.Normal.{atom_good, atom_is_ordered, is_normal, is_ordered, items_good, all_remainders, is_remainder, coefficient_fits}
+use Rattle.affine_index.specs.Normal.{coefficients_fit, terms_fit}
 use Rattle.affine_index.proofs.Induction.{Each, EachTerm, for_items}
 use Rattle.affine_index.proofs.ReadyLaws.{ordered-Div, ordered-Mul, ordered-items}
 use Rattle.affine_index.specs.declared.form.Atom.{Atom}

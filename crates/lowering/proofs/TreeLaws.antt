@@ -1,5 +1,6 @@
 -- The equations of the tree of a form, and of whether its numbers fit.
-use Rattle.std.proofs.Common.{◌≡◌, ℕ, ◌+◌, ◌-◌, ◌^◌, ◌<◌, length, get_or, drop, drop-cons, add-one, List, [], ◌∷◌, map, refl, ap, sym, ◌∙◌, Bool, true, ◌&&◌, nat_lt, Option, None}
+use Rattle.std.proofs.Common.{◌≡◌, ℕ, ◌+◌, ◌-◌, ◌^◌, ◌<◌, length, get_or, drop, drop-cons, add-one, List, [], ◌∷◌, map, refl, ap, sym, ◌∙◌, Bool, true, ◌&&◌}
+use Rattle.std.proofs.Common.{nat_lt, Option, None}
 use Rattle.std.specs.Prelude.{pos}
 use Rattle.std.proofs.lemmas.Bool.{and_parts}
 use Rattle.affine_index.specs.declared.form.Atom.{Atom}
@@ -10,24 +11,30 @@ use Rattle.affine_index.specs.declared.form.Atom.TheVariants.{Size, Var, Div, Mu
 use Rattle.affine_index.specs.declared.form.Atom.TheFolds.{fold-roll-Atom, fold_out-Items}
 use Rattle.loop_lang.specs.declared.index.Iexp.{Iexp}
 use Rattle.loop_lang.specs.declared.index.Iexp.TheVariants as index
-use Rattle.lowering.specs.IndexTree.{Joins, with_factor, through, or_number, plus_items, minus_items, plus_constant, minus_constant, factor_step, tree_step, joined_atom, index_tree, joined_atoms, plus_terms, minus_terms, all_true, terms_step, atom_fits_step, form_fits_step, atom_fits, form_fits, atoms_fit, terms_fit, number_fits}
+use Rattle.lowering.specs.IndexTree.{Joins, with_factor, through, or_number, plus_items, minus_items, plus_constant, minus_constant, factor_step, tree_step}
+use Rattle.lowering.specs.IndexTree.{joined_atom, index_tree, joined_atoms, plus_terms, minus_terms, all_true, terms_step, atom_fits_step, form_fits_step}
+use Rattle.lowering.specs.IndexTree.{atom_fits, form_fits, atoms_fit, terms_fit, number_fits}
 
 module _ (loops : ℕ) where
   pub tree-Size : (k : ℕ) (p : Option Iexp) → joined_atom loops (Size k) p ≡ with_factor p (index.Size k)
-  tree-Size k p = ap (λ a. joined_atom loops a p) (sym (rolls-Size k)) ∙ ap (λ f. f p) (fold-roll-Atom Joins Iexp (factor_step loops) (tree_step loops) (Atom-F.Size k))
+  tree-Size k p = ap (λ a. joined_atom loops a p) (sym (rolls-Size k))
+      ∙ ap (λ f. f p) (fold-roll-Atom Joins Iexp (factor_step loops) (tree_step loops) (Atom-F.Size k))
 
   pub tree-Var : (k : ℕ) (p : Option Iexp) → joined_atom loops (Var k) p ≡ with_factor p (index.Loop (loops - 1 - k))
-  tree-Var k p = ap (λ a. joined_atom loops a p) (sym (rolls-Var k)) ∙ ap (λ f. f p) (fold-roll-Atom Joins Iexp (factor_step loops) (tree_step loops) (Atom-F.Var k))
+  tree-Var k p = ap (λ a. joined_atom loops a p) (sym (rolls-Var k))
+      ∙ ap (λ f. f p) (fold-roll-Atom Joins Iexp (factor_step loops) (tree_step loops) (Atom-F.Var k))
 
   pub tree-Div : (i : Items) (k : ℕ) (p : Option Iexp) → joined_atom loops (Div i k) p ≡ with_factor p (index.Div (index_tree loops i) k)
-  tree-Div i k p = ap (λ a. joined_atom loops a p) (sym (rolls-Div i k)) ∙ ap (λ f. f p) (fold-roll-Atom Joins Iexp (factor_step loops) (tree_step loops) (Atom-F.Div i k))
+  tree-Div i k p = ap (λ a. joined_atom loops a p) (sym (rolls-Div i k))
+      ∙ ap (λ f. f p) (fold-roll-Atom Joins Iexp (factor_step loops) (tree_step loops) (Atom-F.Div i k))
 
   through_map : (fs : List Atom) (p : Option Iexp) → through (map (joined_atom loops) fs) p ≡ joined_atoms loops fs p
   through_map [] p = refl
   through_map (f ∷ fs) p = through_map fs (joined_atom loops f p)
 
   pub tree-Mul : (fs : List Atom) (p : Option Iexp) → joined_atom loops (Mul fs) p ≡ joined_atoms loops fs p
-  tree-Mul fs p = ap (λ a. joined_atom loops a p) (sym (rolls-Mul fs)) ∙ ap (λ f. f p) (fold-roll-Atom Joins Iexp (factor_step loops) (tree_step loops) (Atom-F.Mul fs)) ∙ through_map fs p
+  tree-Mul fs p = ap (λ a. joined_atom loops a p) (sym (rolls-Mul fs))
+      ∙ ap (λ f. f p) (fold-roll-Atom Joins Iexp (factor_step loops) (tree_step loops) (Atom-F.Mul fs)) ∙ through_map fs p
 
   abbrev joined_item : Item Atom → Item Joins
   joined_item t = record { atom = joined_atom loops t.atom; coefficient = t.coefficient }
@@ -40,7 +47,8 @@ module _ (loops : ℕ) where
   minus_map [] a = refl
   minus_map (t ∷ ts) a = minus_map ts _
 
-  pub tree-items : (i : Items) → index_tree loops i ≡ minus_constant i.constant (minus_terms loops i.terms (or_number (pos 0) (plus_constant i.constant (plus_terms loops i.terms None))))
+  pub tree-items : (i : Items) → index_tree loops i ≡ minus_constant i.constant
+      (minus_terms loops i.terms (or_number (pos 0) (plus_constant i.constant (plus_terms loops i.terms None))))
   tree-items i =
       fold_out-Items Joins Iexp (factor_step loops) (tree_step loops) i
       ∙ ap (λ a. minus_constant i.constant (minus_items (map joined_item i.terms) (or_number (pos 0) (plus_constant i.constant a)))) (plus_map i.terms None)
@@ -73,7 +81,8 @@ fits-items i = fold_out-Items Bool Bool atom_fits_step form_fits_step i ∙ ap (
 pub rest_is : {A : Type 0} (ts : List A) (i : ℕ) (t : A) → t ≡ get_or ts i t → i < length ts → drop i ts ≡ t ∷ drop (i + 1) ts
 rest_is ts i t e l = drop-cons ts i t l ∙ (λ j. sym e j ∷ drop (sym (add-one i) j) ts)
 
-pub rest_fits : (ts : List (Item Atom)) (i : ℕ) (t : Item Atom) → t ≡ get_or ts i t → i < length ts → terms_fit (drop i ts) ≡ true → ((number_fits t.coefficient && atom_fits t.atom) ≡ true) × (terms_fit (drop (i + 1) ts) ≡ true)
+pub rest_fits : (ts : List (Item Atom)) (i : ℕ) (t : Item Atom) → t ≡ get_or ts i t → i < length ts → terms_fit (drop i ts) ≡ true
+    → ((number_fits t.coefficient && atom_fits t.atom) ≡ true) × (terms_fit (drop (i + 1) ts) ≡ true)
 rest_fits ts i t e l h = and_parts (number_fits t.coefficient && atom_fits t.atom) (terms_fit (drop (i + 1) ts)) (ap terms_fit (sym (rest_is ts i t e l)) ∙ h)
 
 pub ruleset tree_laws = (tree-Size, tree-Var, tree-Div, tree-Mul, tree-items, fits-Size, fits-Var, fits-Div, fits-Mul, fits-items)

@@ -92,7 +92,9 @@ sizes_short sizes (d ∷ ds) h =
 
 limited_sizes : (sizes : ℕ) (ds : List Items) → All (IsSize sizes) ds → length ds ≤ 3 → limited ds ≡ Ok ds
 limited_sizes sizes ds h few =
-    ap (λ b. if not b then here RankTooLarge else (if not (each_fits ds) then here CoefficientTooLarge else (if not (each_short ds) then here IndexTooLong else Ok ds))) (le-leb (length ds) 8 (omega arith))
+    ap (λ b. if not b then here RankTooLarge else
+        (if not (each_fits ds) then here CoefficientTooLarge else (if not (each_short ds) then here IndexTooLong else Ok ds)))
+        (le-leb (length ds) 8 (omega arith))
     ∙ ap (λ b. if not b then here CoefficientTooLarge else (if not (each_short ds) then here IndexTooLong else Ok ds)) (sizes_fit sizes ds h)
     ∙ ap (λ b. if not b then here IndexTooLong else Ok ds) (sizes_short sizes ds h)
 
@@ -123,8 +125,10 @@ module _ (m : Module) (small : IsSmall m) where
   sizes = length m.sizes
 
   -- the extents of a word
-  read_dims : (s : List ℕ) (gens : List Items) (e : Term) (xs : List Items) → ReadFits (input_shapes m) gens e xs → length (dims e s (input_extents_at m s)) ≡ length xs
-  read_dims s gens (TVar q) xs h = ap length (extents_is s m.inputs q) ∙ length-at (get_or (input_shapes m) q []) s ∙ sym (length-indices gens xs (get_or (input_shapes m) q []) h.1)
+  read_dims : (s : List ℕ) (gens : List Items) (e : Term) (xs : List Items) → ReadFits (input_shapes m) gens e xs
+      → length (dims e s (input_extents_at m s)) ≡ length xs
+  read_dims s gens (TVar q) xs h = ap length (extents_is s m.inputs q) ∙ length-at (get_or (input_shapes m) q []) s
+      ∙ sym (length-indices gens xs (get_or (input_shapes m) q []) h.1)
   read_dims s gens (index e x) xs h = tail_length (dims e s (input_extents_at m s)) (length xs) (read_dims s gens e (x ∷ xs) h)
   read_dims s gens (Lit w) xs h = absurd h
   read_dims s gens (WordOf x) xs h = absurd h
@@ -151,14 +155,17 @@ module _ (m : Module) (small : IsSmall m) where
     gens : gens_of e ≡ []
 
   -- the shape of a read is what its indices leave of the input's extents
-  read_shape : (gens : List Items) (e : Term) (xs : List Items) → ReadFits (input_shapes m) gens e xs → (ns : Extents) × (shape_of e (input_shapes m) ≡ Ok ns) × (length ns ≡ length xs)
+  read_shape : (gens : List Items) (e : Term) (xs : List Items) → ReadFits (input_shapes m) gens e xs → (ns : Extents) × (shape_of e (input_shapes m) ≡ Ok ns)
+      × (length ns ≡ length xs)
   read_shape gens (TVar q) xs h =
       let l : q < length m.inputs = omega (arith, h.0, length-shapes m.inputs) in
       let ds = get_or (input_shapes m) q [] in
-      (ds, limited_sizes sizes ds (shape_at (All (IsSize sizes)) m.inputs q small.extents l) (shape_at (λ ns. length ns ≤ 3) m.inputs q small.ranks l), sym (length-indices gens xs ds h.1))
+      (ds, limited_sizes sizes ds (shape_at (All (IsSize sizes)) m.inputs q small.extents l) (shape_at (λ ns. length ns ≤ 3) m.inputs q small.ranks l),
+          sym (length-indices gens xs ds h.1))
   read_shape gens (index e x) xs h = let p = read_shape gens e (x ∷ xs) h in go p.0 p.1 p.2
     where
-      go : (ns : Extents) → shape_of e (input_shapes m) ≡ Ok ns → length ns ≡ suc (length xs) → (ms : Extents) × (shape_of (index e x) (input_shapes m) ≡ Ok ms) × (length ms ≡ length xs)
+      go : (ns : Extents) → shape_of e (input_shapes m) ≡ Ok ns → length ns ≡ suc (length xs) → (ms : Extents) × (shape_of (index e x) (input_shapes m) ≡ Ok ms)
+          × (length ms ≡ length xs)
       go [] e l = absurd (omega (arith, l))
       go (n ∷ ns) e l = (ns, ap (λ r. with_child 0 r (λ ns. of_first ns (λ n rest. Ok rest))) e, omega (arith, l))
   read_shape gens (Lit w) xs h = absurd h
@@ -188,16 +195,20 @@ module _ (m : Module) (small : IsSmall m) where
 
   plainly : (s : List ℕ) (gens : List Items) (e : Term) → WordFits (input_shapes m) gens e → Plainly s e
   plainly s gens (Lit w) h = record { dims_are = refl; shape = refl; gens = fold-lit (List Items) gens_step w }
-  plainly s gens (TVar q) h = record { dims_are = no_dims _ (read_dims s gens (TVar q) [] h); shape = word_shape gens (TVar q) h; gens = fold-t_var (List Items) gens_step q }
-  plainly s gens (index e x) h = record { dims_are = no_dims _ (read_dims s gens (index e x) [] h); shape = word_shape gens (index e x) h; gens = fold-index (List Items) gens_step e x }
+  plainly s gens (TVar q) h = record
+      { dims_are = no_dims _ (read_dims s gens (TVar q) [] h); shape = word_shape gens (TVar q) h; gens = fold-t_var (List Items) gens_step q }
+  plainly s gens (index e x) h =
+      record { dims_are = no_dims _ (read_dims s gens (index e x) [] h); shape = word_shape gens (index e x) h; gens = fold-index (List Items) gens_step e x }
   plainly s gens (add a b) h =
       let u = plainly s gens a h.0 in
       let v = plainly s gens b h.1 in
-      record { dims_are = u.dims_are; shape = λ i. with_child 0 (u.shape i) (λ ns. with_child 1 (v.shape i) (λ ms. of_equal ns ms)); gens = fold-add (List Items) gens_step a b }
+      record { dims_are = u.dims_are; shape = λ i. with_child 0 (u.shape i) (λ ns. with_child 1 (v.shape i) (λ ms. of_equal ns ms)); gens =
+          fold-add (List Items) gens_step a b }
   plainly s gens (mul a b) h =
       let u = plainly s gens a h.0 in
       let v = plainly s gens b h.1 in
-      record { dims_are = refl; shape = λ i. with_child 0 (u.shape i) (λ ns. with_child 1 (v.shape i) (λ ms. of_words ns ms)); gens = fold-mul (List Items) gens_step a b }
+      record { dims_are = refl; shape = λ i. with_child 0 (u.shape i) (λ ns. with_child 1 (v.shape i) (λ ms. of_words ns ms)); gens =
+          fold-mul (List Items) gens_step a b }
   plainly s gens (WordOf x) h = absurd h
   plainly s gens (gen n e) h = absurd h
   plainly s gens (sum n e) h = absurd h
@@ -247,9 +258,12 @@ module _ (m : Module) (small : IsSmall m) where
   nestly s (suc room) gens (gen n e) r h = gen_nestly s room n e r h.0 (nestly s room (n ∷ gens) e (omega arith) h.1)
   nestly s (suc room) gens e r h = word_nestly s (suc room) gens e h
 
-  inputs_fit : (s : List ℕ) (rank : ℕ) (ds : List InputDecl) → LengthsOf sizes rank s → All (λ d. All (IsSize sizes) d.extents) ds → All (λ d. length d.extents ≤ rank) ds → InputsFit m s ds
+  inputs_fit : (s : List ℕ) (rank : ℕ) (ds : List InputDecl) → LengthsOf sizes rank s → All (λ d. All (IsSize sizes) d.extents) ds
+      → All (λ d. length d.extents ≤ rank) ds → InputsFit m s ds
   inputs_fit s rank [] ls h g = tt
-  inputs_fit s rank (d ∷ ds) ls h g = (ls d.extents (h 0 d (omega arith)) (g 0 d (omega arith)), inputs_fit s rank ds ls (λ i e j. h (suc i) e (omega arith)) (λ i e j. g (suc i) e (omega arith)))
+  inputs_fit s rank (d ∷ ds) ls h g =
+      (ls d.extents (h 0 d (omega arith)) (g 0 d (omega arith)),
+      inputs_fit s rank ds ls (λ i e j. h (suc i) e (omega arith)) (λ i e j. g (suc i) e (omega arith)))
 
   pub nest_here : (s : List ℕ) → Nestly s 3 small.output.term
   nest_here s = nestly s 3 [] small.output.term (omega arith) small.nest
@@ -257,7 +271,8 @@ module _ (m : Module) (small : IsSmall m) where
   pub extents-are : (s : List ℕ) → output_extents m small.output ≡ gens_of small.output.term
   extents-are s = ap extents_or_none (nest_here s).shape
 
-  pub owed : (s : List ℕ) (rank : ℕ) → Allowed m s → PlacesOf sizes rank s → LengthsOf sizes rank s → All (λ d. length d.extents ≤ rank) m.inputs → length (gens_of small.output.term) ≤ rank → Owed m s
+  pub owed : (s : List ℕ) (rank : ℕ) → Allowed m s → PlacesOf sizes rank s → LengthsOf sizes rank s → All (λ d. length d.extents ≤ rank) m.inputs
+      → length (gens_of small.output.term) ≤ rank → Owed m s
   owed s rank a places lengths ranks few =
       let o = small.output in
       let full = gens_of o.term in
@@ -270,9 +285,11 @@ module _ (m : Module) (small : IsSmall m) where
         whole = refl;
       } in
       let fits = nest_fits m s rank places small.extents ranks full 0 few 3 [] o.term [] [] [] small.nest start in
-      let moved : Fits s (input_sites m) (areas m s) (input_extents_at m s) o.term (output_dims m s o) [] [] [] (output_site m o 0) (Out 0) (output_dims m s o) =
+      let moved : Fits s (input_sites m) (areas m s) (input_extents_at m s) o.term (output_dims m s o) [] [] [] (output_site m o 0) (Out 0) (output_dims m s o)
+          =
       subst (λ d. Fits s (input_sites m) (areas m s) (input_extents_at m s) o.term d [] [] [] (output_site m o 0) (Out 0) d) (sym p.dims_are)
-      (subst (λ x. Fits s (input_sites m) (areas m s) (input_extents_at m s) o.term (extents_at full s) [] [] [] (record { buffer = Output 0; offset = literal_form (pos 0); extents = x }) (Out 0) (extents_at full s)) (sym (extents-are s)) fits) in
+      (subst (λ x. Fits s (input_sites m) (areas m s) (input_extents_at m s) o.term (extents_at full s) [] [] []
+          (record { buffer = Output 0; offset = literal_form (pos 0); extents = x }) (Out 0) (extents_at full s)) (sym (extents-are s)) fits) in
       let long : reckon (length_tree (output_extents m o)) s [] ≡ Value (pos (word_count (output_dims m s o))) =
       ap (λ x. reckon (length_tree x) s []) (extents-are s) ∙ lengths full p.all_sizes few ∙ ap (λ d. Value (pos (word_count d))) (sym p.dims_are) in
       let capped : word_count (output_dims m s o) < 2 ^ 63 =

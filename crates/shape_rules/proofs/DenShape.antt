@@ -8,7 +8,8 @@ use Rattle.term_tree.specs.Tensors.{Tensor}
 use Rattle.term_tree.specs.Meaning.{dims, den, extent, Bound, no_bound, extents_of}
 use Rattle.term_tree.specs.Shaped.{HasShape}
 use Rattle.shape_rules.specs.Fits.{AllShaped, ShapesFit}
-use Rattle.shape_rules.proofs.RowShapes.{listed_rows, listed_tabulate, zeros_shape, places_shape, total_shape, row_shape, concat_shape, flatten_shape, split_shape, transpose_shape, drop_shape, drop_last_shape, pad_l_shape, pad_r_shape}
+use Rattle.shape_rules.proofs.RowShapes.{listed_rows, listed_tabulate, zeros_shape, places_shape, total_shape, row_shape, concat_shape, flatten_shape}
+use Rattle.shape_rules.proofs.RowShapes.{split_shape, transpose_shape, drop_shape, drop_last_shape, pad_l_shape, pad_r_shape}
 
 variable_shape : (t : List Bound) (q : ℕ) → AllShaped t → HasShape (get_or (extents_of t) q []) (get_or t q no_bound).1
 variable_shape [] q h = tt
@@ -37,7 +38,8 @@ den_shape (let_in a b) s r t f h = den_shape b s r ((dims a s (extents_of t), de
 den_shape (add a b) s r t f h = places_shape _ (dims a s (extents_of t)) _ _ (den_shape a s r t f.1 h) (at_extents _ _ _ f.0 (den_shape b s r t f.2 h))
 den_shape (sub a b) s r t f h = places_shape _ (dims a s (extents_of t)) _ _ (den_shape a s r t f.1 h) (at_extents _ _ _ f.0 (den_shape b s r t f.2 h))
 den_shape (mul a b) s r t f h = places_shape _ [] _ _ (at_extents _ _ _ f.0.0 (den_shape a s r t f.1 h)) (at_extents _ _ _ f.0.1 (den_shape b s r t f.2 h))
-den_shape (concat a b) s r t f h = concat_shape (dims a s (extents_of t)) (dims b s (extents_of t)) _ _ f.0.0 f.0.1 f.0.2 (den_shape a s r t f.1 h) (den_shape b s r t f.2 h)
+den_shape (concat a b) s r t f h =
+    concat_shape (dims a s (extents_of t)) (dims b s (extents_of t)) _ _ f.0.0 f.0.1 f.0.2 (den_shape a s r t f.1 h) (den_shape b s r t f.2 h)
 den_shape (flatten e) s r t f h = flatten_shape (dims e s (extents_of t)) _ f.0 (den_shape e s r t f.1 h)
 den_shape (split k e) s r t f h = split_shape k (dims e s (extents_of t)) _ f.0 (den_shape e s r t f.1 h)
 den_shape (transpose e) s r t f h = transpose_shape (dims e s (extents_of t)) _ f.0 (den_shape e s r t f.1 h)

@@ -1,5 +1,6 @@
 -- A term denotes a tensor of words below 2^64.
-use Rattle.std.proofs.Common.{◌≡◌, ℕ, zero, suc, ◌+◌, ◌-◌, ◌*◌, ◌%◌, ◌^◌, ◌<◌, List, [], ◌∷◌, ◌++◌, length, map, drop, take, get_or, arith, Bool, true, false, if◌then◌else◌}
+use Rattle.std.proofs.Common.{◌≡◌, ℕ, zero, suc, ◌+◌, ◌-◌, ◌*◌, ◌%◌, ◌^◌, ◌<◌, List, [], ◌∷◌, ◌++◌, length, map, drop, take, get_or, arith, Bool, true, false}
+use Rattle.std.proofs.Common.{if◌then◌else◌}
 use Rattle.std.specs.Prelude.{ℤ, pos, negsuc, unsigned_abs}
 use Rattle.std.specs.Int.{int_rem_euclid}
 use Rattle.affine_index.specs.Condition.{all_hold}
@@ -116,7 +117,8 @@ pub den_words : (e : Term) (s r : List ℕ) (t : List Bound) → LiteralsFit e �
 den_words (Lit w) s r t f h = f
 den_words (TVar q) s r t f h = variable_words t q h
 den_words (WordOf x) s r t f h = word_below (items_value s r x)
-den_words (index e x) s r t f h = row_words (rows_of (den e s r t)) (items_value s r x) _ (words_rows _ (den_words e s r t f h)) (zeros_words (tail_of (dims e s (extents_of t))))
+den_words (index e x) s r t f h =
+    row_words (rows_of (den e s r t)) (items_value s r x) _ (words_rows _ (den_words e s r t f h)) (zeros_words (tail_of (dims e s (extents_of t))))
 den_words (gen n e) s r t f h = rows_words _ (each_tabulate (extent n s) (λ i. den e s (i ∷ r) t) (λ i. den_words e s (i ∷ r) t f h))
 den_words (sum n e) s r t f h = total_words _ (tabulate (extent n s) (λ i. den e s (i ∷ r) t)) (zeros_words (dims e s (extents_of t)))
 den_words (guard c e) s r t f h = chosen (all_hold s r c.all) _ _ (den_words e s r t f h) (zeros_words (dims e s (extents_of t)))
@@ -127,8 +129,11 @@ den_words (mul a b) s r t f h = places_words _ (λ v w. below (v * w)) (den a s 
 den_words (concat a b) s r t f h = rows_words _ (each_append _ _ (words_rows _ (den_words a s r t f.0 h)) (words_rows _ (den_words b s r t f.1 h)))
 den_words (flatten e) s r t f h = rows_words _ (each_joined _ (words_rows _ (den_words e s r t f h)))
 den_words (split k e) s r t f h = rows_words _ (each_chunks _ k _ _ (zeros_words (tail_of (dims e s (extents_of t)))) (words_rows _ (den_words e s r t f h)))
-den_words (transpose e) s r t f h = rows_words _ (each_columns _ _ _ (zeros_words (tail_of (tail_of (dims e s (extents_of t))))) (words_rows _ (den_words e s r t f h)))
+den_words (transpose e) s r t f h =
+    rows_words _ (each_columns _ _ _ (zeros_words (tail_of (tail_of (dims e s (extents_of t))))) (words_rows _ (den_words e s r t f h)))
 den_words (trunc_l n e) s r t f h = rows_words _ (each_drop (extent n s) _ (words_rows _ (den_words e s r t f h)))
 den_words (trunc_r n e) s r t f h = rows_words _ (each_take (length (rows_of (den e s r t)) - extent n s) _ (words_rows _ (den_words e s r t f h)))
-den_words (pad_l n e) s r t f h = rows_words _ (each_append _ _ (each_copies (extent n s) _ (zeros_words (tail_of (dims e s (extents_of t))))) (words_rows _ (den_words e s r t f h)))
-den_words (pad_r n e) s r t f h = rows_words _ (each_append _ _ (words_rows _ (den_words e s r t f h)) (each_copies (extent n s) _ (zeros_words (tail_of (dims e s (extents_of t))))))
+den_words (pad_l n e) s r t f h =
+    rows_words _ (each_append _ _ (each_copies (extent n s) _ (zeros_words (tail_of (dims e s (extents_of t))))) (words_rows _ (den_words e s r t f h)))
+den_words (pad_r n e) s r t f h =
+    rows_words _ (each_append _ _ (words_rows _ (den_words e s r t f h)) (each_copies (extent n s) _ (zeros_words (tail_of (dims e s (extents_of t))))))

@@ -86,7 +86,8 @@ pub free_sum : (a b : Items) → IsFree a → IsFree b → IsFree (sum_of a b)
 free_sum a b h k = shut_free (sum_of a b) (sum-free a b (open_free a h) (open_free b k))
 
 pub free_difference : (a b : Items) → IsFree a → IsFree b → IsFree (difference_of a b)
-free_difference a b h k = shut_free (difference_of a b) (sum-free a (scaled (negsuc 0) b) (open_free a h) (scaled_free (int_eq (negsuc 0) (pos 0)) (negsuc 0) b (open_free b k)))
+free_difference a b h k = shut_free (difference_of a b)
+    (sum-free a (scaled (negsuc 0) b) (open_free a h) (scaled_free (int_eq (negsuc 0) (pos 0)) (negsuc 0) b (open_free b k)))
 
 pub free_product : (a b : Items) → IsFree a → IsFree b → IsFree (product_of a b)
 free_product a b h k = shut_free (product_of a b) (product-free a b (open_free a h) (open_free b k))

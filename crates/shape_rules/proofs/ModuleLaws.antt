@@ -1,5 +1,6 @@
 -- Modules: first faults, goals, and what a sound module has.
-use Rattle.std.proofs.Common.{◌≡◌, ℕ, zero, suc, ◌+◌, ◌<◌, List, [], ◌∷◌, ◌++◌, length, map, get_or, drop, drop-cons, add-one, append_assoc, reverse, refl, ap, subst, sym, ◌∙◌, arith, true, ◌&&◌, Some, Ok, Err, IsOk}
+use Rattle.std.proofs.Common.{◌≡◌, ℕ, zero, suc, ◌+◌, ◌<◌, List, [], ◌∷◌, ◌++◌, length, map, get_or, drop, drop-cons, add-one, append_assoc, reverse, refl, ap}
+use Rattle.std.proofs.Common.{subst, sym, ◌∙◌, arith, true, ◌&&◌, Some, Ok, Err, IsOk}
 use Rattle.std.specs.Prelude.{slice_get, All}
 use Rattle.std.proofs.lemmas.Bool.{and_from, and_parts}
 use borrow.Author.Count.{below_more}
@@ -12,7 +13,8 @@ use Rattle.term_tree.specs.declared.term.Module.{Module}
 use Rattle.term_tree.specs.declared.term.OutputDecl.{OutputDecl}
 use Rattle.term_tree.specs.Goals.{term_goals}
 use Rattle.term_tree.specs.Meaning.{extents_of}
-use Rattle.term_tree.specs.Modules.{Allowed, AreInputs, IsSound, extent_goals, extents_at, extents_scoped, input_goals, input_shapes, inputs_bound, inputs_scoped, module_scoped, outputs_goals, outputs_scoped}
+use Rattle.term_tree.specs.Modules.{Allowed, AreInputs, IsSound, extent_goals, extents_at, extents_scoped, input_goals, input_shapes, inputs_bound}
+use Rattle.term_tree.specs.Modules.{inputs_scoped, module_scoped, outputs_goals, outputs_scoped}
 use Rattle.term_tree.specs.Scope.{term_scoped}
 use Rattle.term_tree.specs.Shape.{Extents, Shaped, shape_of}
 use Rattle.term_tree.specs.Tensors.{Tensor}
@@ -77,12 +79,14 @@ module _ (s : List ℕ) where
   inputs_values [] h = tt
   inputs_values (d ∷ ds) h = let p = negative_parts s d.extents (input_goals ds) h in (extents_values d.extents p.0, inputs_values ds p.1)
 
-  pub output_goals : (os : List OutputDecl) (ts : List Extents) (k : ℕ) (d : OutputDecl) → k < length os → NoneNegative s (outputs_goals os ts) → NoneNegative s (term_goals (get_or os k d).term ts)
+  pub output_goals : (os : List OutputDecl) (ts : List Extents) (k : ℕ) (d : OutputDecl) → k < length os → NoneNegative s (outputs_goals os ts)
+      → NoneNegative s (term_goals (get_or os k d).term ts)
   output_goals [] ts k d l h = absurd (omega (arith, l))
   output_goals (o ∷ os) ts zero d l h = (negative_parts s (term_goals o.term ts) (outputs_goals os ts) h).0
   output_goals (o ∷ os) ts (suc k) d l h = output_goals os ts k d (omega (arith, l)) (negative_parts s (term_goals o.term ts) (outputs_goals os ts) h).1
 
-  pub bound_extents : (ds : List InputDecl) (inputs : List Tensor) → AreInputs ds s inputs → extents_of (inputs_bound ds s inputs) ≡ map (λ d. extents_at d.extents s) ds
+  pub bound_extents : (ds : List InputDecl) (inputs : List Tensor) → AreInputs ds s inputs
+      → extents_of (inputs_bound ds s inputs) ≡ map (λ d. extents_at d.extents s) ds
   bound_extents [] [] h = refl
   bound_extents [] (x ∷ xs) h = absurd h
   bound_extents (d ∷ ds) [] h = absurd h
@@ -100,14 +104,18 @@ module _ (s : List ℕ) where
   bound_words (d ∷ ds) [] h = absurd h
   bound_words (d ∷ ds) (x ∷ xs) h = (h.1, bound_words ds xs h.2)
 
-pub output_scoped : (sizes tensors : ℕ) (os : List OutputDecl) (k : ℕ) (d : OutputDecl) → k < length os → outputs_scoped sizes tensors os ≡ true → term_scoped sizes (get_or os k d).term 0 tensors ≡ true
+pub output_scoped : (sizes tensors : ℕ) (os : List OutputDecl) (k : ℕ) (d : OutputDecl) → k < length os → outputs_scoped sizes tensors os ≡ true
+    → term_scoped sizes (get_or os k d).term 0 tensors ≡ true
 output_scoped sizes tensors [] k d l h = absurd (omega (arith, l))
 output_scoped sizes tensors (o ∷ os) zero d l h = (and_parts (term_scoped sizes o.term 0 tensors) (outputs_scoped sizes tensors os) h).0
-output_scoped sizes tensors (o ∷ os) (suc k) d l h = output_scoped sizes tensors os k d (omega (arith, l)) (and_parts (term_scoped sizes o.term 0 tensors) (outputs_scoped sizes tensors os) h).1
+output_scoped sizes tensors (o ∷ os) (suc k) d l h =
+    output_scoped sizes tensors os k d (omega (arith, l)) (and_parts (term_scoped sizes o.term 0 tensors) (outputs_scoped sizes tensors os) h).1
 
-pub module_parts : (m : Module) → module_scoped m ≡ true → (inputs_scoped (length m.sizes) m.inputs ≡ true) × (outputs_scoped (length m.sizes) (length m.inputs) m.outputs ≡ true)
+pub module_parts : (m : Module) → module_scoped m ≡ true → (inputs_scoped (length m.sizes) m.inputs ≡ true)
+    × (outputs_scoped (length m.sizes) (length m.inputs) m.outputs ≡ true)
 module_parts m h =
-    let p = and_parts (all_scoped (length m.sizes) 0 m.assumes) (inputs_scoped (length m.sizes) m.inputs && outputs_scoped (length m.sizes) (length m.inputs) m.outputs) h in
+    let p = and_parts (all_scoped (length m.sizes) 0 m.assumes)
+        (inputs_scoped (length m.sizes) m.inputs && outputs_scoped (length m.sizes) (length m.inputs) m.outputs) h in
     and_parts (inputs_scoped (length m.sizes) m.inputs) (outputs_scoped (length m.sizes) (length m.inputs) m.outputs) p.1
 
 has_shape : (r : Shaped) → IsOk r → (ns : Extents) × (r ≡ Ok ns)
@@ -115,7 +123,8 @@ has_shape (Ok ns) h = (ns, refl)
 has_shape (Err e) h = absurd (let q : IsOk {T = Extents} (Err e) = h in cc)
 
 -- the goals of a sound module at allowed sizes: those of its inputs, then those of its outputs
-pub sound_goals : (m : Module) → IsSound m → (s : List ℕ) → Allowed m s → NoneNegative s (input_goals m.inputs) × NoneNegative s (outputs_goals m.outputs (input_shapes m))
+pub sound_goals : (m : Module) → IsSound m → (s : List ℕ) → Allowed m s → NoneNegative s (input_goals m.inputs)
+    × NoneNegative s (outputs_goals m.outputs (input_shapes m))
 sound_goals m sound s a = negative_parts s (input_goals m.inputs) (outputs_goals m.outputs (input_shapes m)) (none_of s (extent_goals m) (sound.positive s a))
 
 pub sound_shapes : SoundShapes
@@ -126,7 +135,8 @@ sound_shapes m sound s a =
           let o = get_or m.outputs k d in
           let w = has_shape (shape_of o.term (input_shapes m)) (sound.shaped k d l) in
           each_part s (length m.sizes) o.term 0 (length m.inputs) (input_shapes m) w.0
-          (output_scoped (length m.sizes) (length m.inputs) m.outputs k d l (module_parts m sound.scoped).1) w.1 (output_goals s m.outputs (input_shapes m) k d l gs.1),
+          (output_scoped (length m.sizes) (length m.inputs) m.outputs k d l (module_parts m sound.scoped).1) w.1
+              (output_goals s m.outputs (input_shapes m) k d l gs.1),
     )
 
 pub sound_tensors : SoundTensors
@@ -134,7 +144,8 @@ sound_tensors m sound s a inputs h k d l =
     let gs = sound_goals m sound s a in
     let o = get_or m.outputs k d in
     let w = has_shape (shape_of o.term (input_shapes m)) (sound.shaped k d l) in
-    let meant = den_meant (length m.sizes) o.term 0 (length m.inputs) (input_shapes m) w.0 (output_scoped (length m.sizes) (length m.inputs) m.outputs k d l (module_parts m sound.scoped).1) w.1
+    let meant = den_meant (length m.sizes) o.term 0 (length m.inputs) (input_shapes m) w.0
+        (output_scoped (length m.sizes) (length m.inputs) m.outputs k d l (module_parts m sound.scoped).1) w.1
     s (output_goals s m.outputs (input_shapes m) k d l gs.1) (input_extents m s) (inputs_values s m.inputs gs.0) in
     meant.1 [] (inputs_bound m.inputs s inputs) (bound_extents s m.inputs inputs h) (bound_shaped s m.inputs inputs h)
 
@@ -175,7 +186,8 @@ rest_from : (os : List OutputDecl) (i : ℕ) (o : OutputDecl) → i < length os 
 rest_from os i o h e = drop-cons os i o h ∙ (λ k. sym e k ∷ drop (sym (add-one i) k) os)
 
 -- one output more
-pub outputs_step : (os : List OutputDecl) (ts : List Extents) (i : ℕ) (o : OutputDecl) (g0 g1 whole : List Items) → i < length os → o ≡ get_or os i o → g1 ≡ g0 ++ term_goals o.term ts
+pub outputs_step : (os : List OutputDecl) (ts : List Extents) (i : ℕ) (o : OutputDecl) (g0 g1 whole : List Items) → i < length os → o ≡ get_or os i o
+    → g1 ≡ g0 ++ term_goals o.term ts
     → g0 ++ outputs_goals (drop i os) ts ≡ whole → g1 ++ outputs_goals (drop (i + 1) os) ts ≡ whole
 outputs_step os ts i o g0 g1 whole h e q w =
     let c : drop i os ≡ o ∷ drop (i + 1) os = rest_from os i o h e in
@@ -183,7 +195,8 @@ outputs_step os ts i o g0 g1 whole h e q w =
     ∙ ap (λ xs. g0 ++ outputs_goals xs ts) (sym c) ∙ w
 
 -- a fault of the outputs is one of the module
-pub module_fault : (m : Module) (ts : List Extents) (fault : ShapeFault) → ts ≡ input_shapes m → All RankFits m.inputs → FailsFirst ts m.outputs fault → IsModuleFault m fault
+pub module_fault : (m : Module) (ts : List Extents) (fault : ShapeFault) → ts ≡ input_shapes m → All RankFits m.inputs → FailsFirst ts m.outputs fault
+    → IsModuleFault m fault
 module_fault m ts fault e r h = by fault (subst (λ (ts : List Extents). FailsFirst ts m.outputs fault) e h)
   where
     by : (fault : ShapeFault) → FailsFirst (input_shapes m) m.outputs fault → IsModuleFault m fault
@@ -196,18 +209,22 @@ module_fault m ts fault e r h = by fault (subst (λ (ts : List Extents). FailsFi
     by f.Memory w = tt
 
 -- the inputs alone are in scope
-pub inputs_in_scope : (m : Module) (lets bound inputs : List Extents) → lets ≡ [] → bound ≡ [] → inputs ≡ input_shapes m → scope (record { lets = lets; inputs = inputs }) bound ≡ input_shapes m
+pub inputs_in_scope : (m : Module) (lets bound inputs : List Extents) → lets ≡ [] → bound ≡ [] → inputs ≡ input_shapes m
+    → scope (record { lets = lets; inputs = inputs }) bound ≡ input_shapes m
 inputs_in_scope m lets bound inputs e f g = λ i. reverse (f i) ++ (e i ++ g i)
 
-pub goals_are : (m : Module) (g0 g1 : List Items) (ts : List Extents) (ins : List InputDecl) (outs : List OutputDecl) → g1 ≡ g0 ++ outputs_goals outs ts → g0 ≡ input_goals ins → ins ≡ m.inputs → outs ≡ m.outputs
+pub goals_are : (m : Module) (g0 g1 : List Items) (ts : List Extents) (ins : List InputDecl) (outs : List OutputDecl) → g1 ≡ g0 ++ outputs_goals outs ts
+    → g0 ≡ input_goals ins → ins ≡ m.inputs → outs ≡ m.outputs
     → ts ≡ input_shapes m → g1 ≡ extent_goals m
 goals_are m g0 g1 ts ins outs h e f g k = h ∙ (λ i. e i ++ outputs_goals (g i) (k i)) ∙ ap (λ ds. input_goals ds ++ outputs_goals m.outputs (input_shapes m)) f
 
-pub plain_step : (os : List OutputDecl) (i : ℕ) (o : OutputDecl) → i < length os → o ≡ get_or os i o → all_plain (drop i os) ≡ true → all_plain (drop (i + 1) os) ≡ true
+pub plain_step : (os : List OutputDecl) (i : ℕ) (o : OutputDecl) → i < length os → o ≡ get_or os i o → all_plain (drop i os) ≡ true
+    → all_plain (drop (i + 1) os) ≡ true
 plain_step os i o h e p =
     (and_parts (is_plain o.term) (all_plain (drop (i + 1) os)) (sym (ap all_plain (rest_from os i o h e)) ∙ p)).1
 
-pub shapes_hold : (m : Module) (ts : List Extents) (ins : List InputDecl) (outs : List OutputDecl) → ins ≡ m.inputs → outs ≡ m.outputs → ts ≡ input_shapes m → All RankFits ins → All (HasOne ts) outs → ShapesHold m
+pub shapes_hold : (m : Module) (ts : List Extents) (ins : List InputDecl) (outs : List OutputDecl) → ins ≡ m.inputs → outs ≡ m.outputs → ts ≡ input_shapes m
+    → All RankFits ins → All (HasOne ts) outs → ShapesHold m
 shapes_hold m ts ins outs e f g r h = record {
   ranks = subst (All RankFits) e r;
   shaped = subst (λ (ts : List Extents). All (HasOne ts) m.outputs) g (subst (All (HasOne ts)) f h);

@@ -1,5 +1,6 @@
 -- Each operation on rows gives a tensor of the extents that its shape rule tells.
-use Rattle.std.proofs.Common.{◌≡◌, ℕ, zero, suc, ◌+◌, ◌-◌, ◌*◌, ◌/◌, List, [], ◌∷◌, ◌++◌, length, map, drop, take, get_or, refl, ap, sym, subst, arith, zero-add}
+use Rattle.std.proofs.Common.{◌≡◌, ℕ, zero, suc, ◌+◌, ◌-◌, ◌*◌, ◌/◌, List, [], ◌∷◌, ◌++◌, length, map, drop, take, get_or, refl, ap, sym, subst, arith}
+use Rattle.std.proofs.Common.{zero-add}
 use Rattle.std.specs.Prelude.{ℤ, pos, negsuc}
 use Rattle.term_tree.specs.Tensors.{Tensor, Word, End, Row, rows_of, from_rows, by_places, copies, zeros, tabulate, total, joined, drop_last}
 use Rattle.term_tree.specs.Meaning.{head_of, tail_of, row_at, chunks, columns}
@@ -58,7 +59,8 @@ module _ {A : Type 0} (P : A → Type 0) where
   listed_take (suc m) (suc n) a [] e h = elim h [ ]
   listed_take (suc m) (suc n) a (x ∷ xs) e (one p h) = one p (listed_take m n a xs (omega (arith, e)) h)
 
-listed_map : {A B : Type 0} (P : A → Type 0) (Q : B → Type 0) (f : A → B) → ((x : A) → P x → Q (f x)) → (n : ℕ) (xs : List A) → Listed P n xs → Listed Q n (map f xs)
+listed_map : {A B : Type 0} (P : A → Type 0) (Q : B → Type 0) (f : A → B) → ((x : A) → P x → Q (f x)) → (n : ℕ) (xs : List A) → Listed P n xs
+    → Listed Q n (map f xs)
 listed_map P Q f h zero [] none = none
 listed_map P Q f h zero (x ∷ xs) k = elim k [ ]
 listed_map P Q f h (suc n) [] k = elim k [ ]
@@ -106,7 +108,8 @@ module _ (f : ℕ → ℕ → ℕ) where
 
 pub total_shape : (d : List ℕ) (n : ℕ) (g : ℕ → Tensor) → ((i : ℕ) → HasShape d (g i)) → HasShape d (total (zeros d) (tabulate n g))
 total_shape d zero g h = zeros_shape d
-total_shape d (suc n) g h = places_shape _ d (g zero) (total (zeros d) (tabulate n (λ i. g (suc i)))) (h zero) (total_shape d n (λ i. g (suc i)) (λ i. h (suc i)))
+total_shape d (suc n) g h = places_shape _ d (g zero) (total (zeros d) (tabulate n (λ i. g (suc i)))) (h zero)
+    (total_shape d n (λ i. g (suc i)) (λ i. h (suc i)))
 
 -- each operation on rows, at extents of enough rank
 pub row_shape : (d : List ℕ) (x : Tensor) (i : ℤ) → HasFirst d → HasShape d x → HasShape (tail_of d) (row_at (rows_of x) i (zeros (tail_of d)))
@@ -120,7 +123,8 @@ concat_shape [] e x y f g t a b = absurd f
 concat_shape (n ∷ d) [] x y f g t a b = absurd g
 concat_shape (n ∷ d) (m ∷ e) x y f g t a b =
     let c : HasShape (m ∷ d) y = subst (λ (e : List ℕ). HasShape (m ∷ e) y) t b in
-    listed_rows (HasShape d) (n + m) _ (listed_append (HasShape d) n m (rows_of x) (rows_of y) (rows_listed (HasShape d) n x a) (rows_listed (HasShape d) m y c))
+    listed_rows (HasShape d) (n + m) _
+        (listed_append (HasShape d) n m (rows_of x) (rows_of y) (rows_listed (HasShape d) n x a) (rows_listed (HasShape d) m y c))
 
 joined_listed : (P : Tensor → Type 0) (n m : ℕ) (xs : List Tensor) → Listed (HasRows P m) n xs → Listed P (n * m) (joined xs)
 joined_listed P zero m [] none = let e : 0 ≡ zero * m = omega arith in subst (λ (i : ℕ). Listed P i []) e none
@@ -128,7 +132,8 @@ joined_listed P zero m (x ∷ xs) h = elim h [ ]
 joined_listed P (suc n) m [] h = elim h [ ]
 joined_listed P (suc n) m (x ∷ xs) (one p h) =
     let e : m + n * m ≡ suc n * m = omega arith in
-    subst (λ (i : ℕ). Listed P i (rows_of x ++ joined xs)) e (listed_append P m (n * m) (rows_of x) (joined xs) (rows_listed P m x p) (joined_listed P n m xs h))
+    subst (λ (i : ℕ). Listed P i (rows_of x ++ joined xs)) e
+        (listed_append P m (n * m) (rows_of x) (joined xs) (rows_listed P m x p) (joined_listed P n m xs h))
 
 pub flatten_shape : (d : List ℕ) (x : Tensor) → HasTwo d → HasShape d x →
     HasShape ((head_of d * head_of (tail_of d)) ∷ tail_of (tail_of d)) (from_rows (joined (rows_of x)))
@@ -146,7 +151,8 @@ pub split_shape : (k : ℕ) (d : List ℕ) (x : Tensor) → HasFirst d → HasSh
     HasShape (((head_of d + k - 1) / k) ∷ k ∷ tail_of d) (from_rows (chunks ((head_of d + k - 1) / k) k (zeros (tail_of d)) (rows_of x)))
 split_shape k [] x f h = absurd f
 split_shape k (n ∷ d) x f h =
-    listed_rows (HasShape (k ∷ d)) ((n + k - 1) / k) _ (chunks_listed (HasShape d) (zeros d) (zeros_shape d) ((n + k - 1) / k) k n (rows_of x) (rows_listed (HasShape d) n x h))
+    listed_rows (HasShape (k ∷ d)) ((n + k - 1) / k) _
+        (chunks_listed (HasShape d) (zeros d) (zeros_shape d) ((n + k - 1) / k) k n (rows_of x) (rows_listed (HasShape d) n x h))
 
 pub transpose_shape : (d : List ℕ) (x : Tensor) → HasTwo d → HasShape d x →
     HasShape (head_of (tail_of d) ∷ head_of d ∷ tail_of (tail_of d)) (from_rows (columns (head_of (tail_of d)) (zeros (tail_of (tail_of d))) (rows_of x)))
@@ -165,20 +171,26 @@ drop_shape a (n ∷ d) x f h = listed_rows (HasShape d) (n - a) _ (listed_drop (
 take_some : (P : Tensor → Type 0) (m n : ℕ) (xs : List Tensor) → Listed P n xs → Listed P (n - m) (take (n - m) xs)
 take_some P m n xs h = listed_take P (n - m) n (n - (n - m)) xs (omega arith) h
 
-pub drop_last_shape : (a : ℕ) (d : List ℕ) (x : Tensor) → HasFirst d → HasShape d x → HasShape ((head_of d - a) ∷ tail_of d) (from_rows (drop_last a (rows_of x)))
+pub drop_last_shape : (a : ℕ) (d : List ℕ) (x : Tensor) → HasFirst d → HasShape d x
+    → HasShape ((head_of d - a) ∷ tail_of d) (from_rows (drop_last a (rows_of x)))
 drop_last_shape a [] x f h = absurd f
 drop_last_shape a (n ∷ d) x f h =
     let l = rows_listed (HasShape d) n x h in
-    listed_rows (HasShape d) (n - a) _ (subst (λ (k : ℕ). Listed (HasShape d) (n - a) (take (k - a) (rows_of x))) (sym (listed_length (HasShape d) n (rows_of x) l)) (take_some (HasShape d) a n (rows_of x) l))
+    listed_rows (HasShape d) (n - a) _
+        (subst (λ (k : ℕ). Listed (HasShape d) (n - a) (take (k - a) (rows_of x))) (sym (listed_length (HasShape d) n (rows_of x) l))
+        (take_some (HasShape d) a n (rows_of x) l))
 
-pub pad_l_shape : (a : ℕ) (d : List ℕ) (x : Tensor) → HasFirst d → HasShape d x → HasShape ((head_of d + a) ∷ tail_of d) (from_rows (copies a (zeros (tail_of d)) ++ rows_of x))
+pub pad_l_shape : (a : ℕ) (d : List ℕ) (x : Tensor) → HasFirst d → HasShape d x
+    → HasShape ((head_of d + a) ∷ tail_of d) (from_rows (copies a (zeros (tail_of d)) ++ rows_of x))
 pad_l_shape a [] x f h = absurd f
 pad_l_shape a (n ∷ d) x f h =
     let e : a + n ≡ n + a = omega arith in
     listed_rows (HasShape d) (n + a) _ (subst (λ (k : ℕ). Listed (HasShape d) k (copies a (zeros d) ++ rows_of x)) e
     (listed_append (HasShape d) a n _ _ (listed_copies (HasShape d) a (zeros d) (zeros_shape d)) (rows_listed (HasShape d) n x h)))
 
-pub pad_r_shape : (a : ℕ) (d : List ℕ) (x : Tensor) → HasFirst d → HasShape d x → HasShape ((head_of d + a) ∷ tail_of d) (from_rows (rows_of x ++ copies a (zeros (tail_of d))))
+pub pad_r_shape : (a : ℕ) (d : List ℕ) (x : Tensor) → HasFirst d → HasShape d x
+    → HasShape ((head_of d + a) ∷ tail_of d) (from_rows (rows_of x ++ copies a (zeros (tail_of d))))
 pad_r_shape a [] x f h = absurd f
 pad_r_shape a (n ∷ d) x f h =
-    listed_rows (HasShape d) (n + a) _ (listed_append (HasShape d) n a _ _ (rows_listed (HasShape d) n x h) (listed_copies (HasShape d) a (zeros d) (zeros_shape d)))
+    listed_rows (HasShape d) (n + a) _
+        (listed_append (HasShape d) n a _ _ (rows_listed (HasShape d) n x h) (listed_copies (HasShape d) a (zeros d) (zeros_shape d)))

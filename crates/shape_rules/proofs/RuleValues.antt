@@ -1,5 +1,6 @@
 -- The shape rule of each operator at values.
-use Rattle.std.proofs.Common.{◌≡◌, ℕ, zero, suc, ◌+◌, ◌-◌, ◌*◌, ◌/◌, ◌<◌, List, [], ◌∷◌, ◌++◌, length, get_or, refl, ap, subst, sym, ◌∙◌, arith, Bool, true, false, not, nat_le, ◌==◌, if◌then◌else◌, Ok}
+use Rattle.std.proofs.Common.{◌≡◌, ℕ, zero, suc, ◌+◌, ◌-◌, ◌*◌, ◌/◌, ◌<◌, List, [], ◌∷◌, ◌++◌, length, get_or, refl, ap, subst, sym, ◌∙◌, arith, Bool, true}
+use Rattle.std.proofs.Common.{false, not, nat_le, ◌==◌, if◌then◌else◌, Ok}
 use Rattle.std.specs.Prelude.{ℤ, pos, negsuc, ◌+ℤ◌, ◌*ℤ◌}
 use Rattle.std.specs.Int.{int_div_euclid}
 use Rattle.affine_index.specs.Condition.{at_least_zero}
@@ -82,7 +83,8 @@ module _ (s : List ℕ) where
   limited_values : (ns ms : Extents) (d : List ℕ) → limited ns ≡ Ok ms → HaveValues s ns d → HaveValues s ms d
   limited_values ns ms d e h = moved ns ms d (limited_same ns ms e) h
 
-  pub limited_variable : (ts : List Extents) (ds : List (List ℕ)) (q : ℕ) (ms : Extents) → AllHaveValues s ts ds → limited (get_or ts q []) ≡ Ok ms → HaveValues s ms (get_or ds q [])
+  pub limited_variable : (ts : List Extents) (ds : List (List ℕ)) (q : ℕ) (ms : Extents) → AllHaveValues s ts ds → limited (get_or ts q []) ≡ Ok ms
+      → HaveValues s ms (get_or ds q [])
   limited_variable ts ds q ms h e = limited_values (get_or ts q []) ms (get_or ds q []) e (variable_values ts ds q h)
 
   pub same_shape_values : (ns : Extents) (d : List ℕ) (ms : Extents) → HaveValues s ns d → same_shape ns ≡ Ok ms → HaveValues s ms d
@@ -93,10 +95,12 @@ module _ (s : List ℕ) where
   row_values (n ∷ ns) [] ms h e = absurd h
   row_values (n ∷ ns) (a ∷ d) ms h e = (moved ns ms d (inside ns ms e) h.1, tt)
 
-  pub rows_values : (n : Items) (ns : Extents) (d : List ℕ) (ms : Extents) → at_least_zero (items_value s [] n) ≡ true → HaveValues s ns d → rows_shape n ns ≡ Ok ms → HaveValues s ms (extent n s ∷ d)
+  pub rows_values : (n : Items) (ns : Extents) (d : List ℕ) (ms : Extents) → at_least_zero (items_value s [] n) ≡ true → HaveValues s ns d
+      → rows_shape n ns ≡ Ok ms → HaveValues s ms (extent n s ∷ d)
   rows_values n ns d ms g h e = limited_values (n ∷ ns) ms (extent n s ∷ d) e (extent_pos n g, h)
 
-  pub flat_values : (ns : Extents) (d : List ℕ) (ms : Extents) → HaveValues s ns d → flat_shape ns ≡ Ok ms → HaveValues s ms ((head_of d * head_of (tail_of d)) ∷ tail_of (tail_of d)) × HasTwo d
+  pub flat_values : (ns : Extents) (d : List ℕ) (ms : Extents) → HaveValues s ns d → flat_shape ns ≡ Ok ms
+      → HaveValues s ms ((head_of d * head_of (tail_of d)) ∷ tail_of (tail_of d)) × HasTwo d
   flat_values [] d ms h e = absurd (cc)
   flat_values (n ∷ []) d ms h e = absurd (cc)
   flat_values (n ∷ m ∷ ns) [] ms h e = absurd h
@@ -113,7 +117,8 @@ module _ (s : List ℕ) where
       ∙ tiles_pos (items_value s [] (sum_of n (literal_form (pos (k - 1))))) a k p
       (sum_of-value s [] n (literal_form (pos (k - 1))) ∙ (λ i. h i +ℤ value-literal s [] (pos (k - 1)) i))
 
-  pub tiled_values : (k : ℕ) (ns : Extents) (d : List ℕ) (ms : Extents) → 0 < k → HaveValues s ns d → tiled_shape k ns ≡ Ok ms → HaveValues s ms (((head_of d + k - 1) / k) ∷ k ∷ tail_of d) × HasFirst d
+  pub tiled_values : (k : ℕ) (ns : Extents) (d : List ℕ) (ms : Extents) → 0 < k → HaveValues s ns d → tiled_shape k ns ≡ Ok ms
+      → HaveValues s ms (((head_of d + k - 1) / k) ∷ k ∷ tail_of d) × HasFirst d
   tiled_values k [] d ms p h e = absurd (cc)
   tiled_values k (n ∷ ns) [] ms p h e = absurd h
   tiled_values k (n ∷ ns) (a ∷ d) ms p h e = (
@@ -122,7 +127,8 @@ module _ (s : List ℕ) where
     tt,
   )
 
-  pub columns_values : (ns : Extents) (d : List ℕ) (ms : Extents) → HaveValues s ns d → columns_shape ns ≡ Ok ms → HaveValues s ms (head_of (tail_of d) ∷ head_of d ∷ tail_of (tail_of d)) × HasTwo d
+  pub columns_values : (ns : Extents) (d : List ℕ) (ms : Extents) → HaveValues s ns d → columns_shape ns ≡ Ok ms
+      → HaveValues s ms (head_of (tail_of d) ∷ head_of d ∷ tail_of (tail_of d)) × HasTwo d
   columns_values [] d ms h e = absurd (cc)
   columns_values (n ∷ []) d ms h e = absurd (cc)
   columns_values (n ∷ m ∷ ns) [] ms h e = absurd h
@@ -135,14 +141,16 @@ module _ (s : List ℕ) where
       less_pos (items_value s [] (difference_of n x)) (extent x s) a q
       (ap (λ z. items_value s [] (difference_of n x) +ℤ z) (sym (extent_pos x p)) ∙ value-difference s [] n x ∙ h)
 
-  pub fewer_values : (x : Items) (ns : Extents) (d : List ℕ) (ms : Extents) → at_least_zero (items_value s [] x) ≡ true → NoneNegative s (rest_after x ns) → HaveValues s ns d → fewer_shape x ns ≡ Ok ms
+  pub fewer_values : (x : Items) (ns : Extents) (d : List ℕ) (ms : Extents) → at_least_zero (items_value s [] x) ≡ true → NoneNegative s (rest_after x ns)
+      → HaveValues s ns d → fewer_shape x ns ≡ Ok ms
       → HaveValues s ms ((head_of d - extent x s) ∷ tail_of d) × HasFirst d
   fewer_values x [] d ms p q h e = absurd (cc)
   fewer_values x (n ∷ ns) [] ms p q h e = absurd h
   fewer_values x (n ∷ ns) (a ∷ d) ms p q h e =
       (limited_values (difference_of n x ∷ ns) ms ((a - extent x s) ∷ d) e (less_value n x a p q.0 h.0, h.1), tt)
 
-  pub more_values : (x : Items) (ns : Extents) (d : List ℕ) (ms : Extents) → at_least_zero (items_value s [] x) ≡ true → HaveValues s ns d → more_shape x ns ≡ Ok ms
+  pub more_values : (x : Items) (ns : Extents) (d : List ℕ) (ms : Extents) → at_least_zero (items_value s [] x) ≡ true → HaveValues s ns d
+      → more_shape x ns ≡ Ok ms
       → HaveValues s ms ((head_of d + extent x s) ∷ tail_of d) × HasFirst d
   more_values x [] d ms p h e = absurd (cc)
   more_values x (n ∷ ns) [] ms p h e = absurd h
@@ -157,7 +165,8 @@ module _ (s : List ℕ) where
   refused true cause x ms h = absurd (cc)
   refused false cause x ms h = refl
 
-  pub equal_values : (ns ks : Extents) (d e : List ℕ) (ms : Extents) → HaveValues s ns d → HaveValues s ks e → of_equal ns ks ≡ Ok ms → HaveValues s ms d × (e ≡ d)
+  pub equal_values : (ns ks : Extents) (d e : List ℕ) (ms : Extents) → HaveValues s ns d → HaveValues s ks e → of_equal ns ks ≡ Ok ms → HaveValues s ms d
+      × (e ≡ d)
   equal_values ns ks d e ms h k f =
       let g = otherwise (not (length ns == length ks)) _ _ ms f in
       let same = same_of (same_forms ns ks) ns ks refl (refused (not (same_forms ns ks)) _ _ ms g) in
@@ -168,7 +177,8 @@ module _ (s : List ℕ) where
   none_values [] (a ∷ d) e h = absurd h
   none_values (n ∷ ns) (a ∷ d) e h = absurd (cc)
 
-  pub words_values : (ns ks : Extents) (d e : List ℕ) (ms : Extents) → HaveValues s ns d → HaveValues s ks e → of_words ns ks ≡ Ok ms → HaveValues s ms [] × (d ≡ []) × (e ≡ [])
+  pub words_values : (ns ks : Extents) (d e : List ℕ) (ms : Extents) → HaveValues s ns d → HaveValues s ks e → of_words ns ks ≡ Ok ms → HaveValues s ms []
+      × (d ≡ []) × (e ≡ [])
   words_values [] [] d e ms h k f = (moved [] ms [] (inside [] ms f) tt, none_values [] d refl h, none_values [] e refl k)
   words_values [] (m ∷ ks) d e ms h k f = absurd (cc)
   words_values (n ∷ ns) ks d e ms h k f = absurd (cc)

@@ -6,7 +6,10 @@ use Rattle.affine_index.specs.declared.form.Items.{Items}
 use Rattle.term_tree.specs.declared.term.Term.{Term}
 use Rattle.term_tree.specs.declared.term.Term.TheOpen.{Term-F}
 use Rattle.term_tree.specs.declared.term.Term.TheFolds.{fold-roll-Term}
-use Rattle.term_tree.specs.declared.term.Term.TheVariants.{Index, Gen, Sum, Guard, Let, Add, Sub, Mul, Concat, Flatten, Split, Transpose, TruncL, TruncR, PadL, PadR, rolls-Index, rolls-Gen, rolls-Sum, rolls-Guard, rolls-Let, rolls-Add, rolls-Sub, rolls-Mul, rolls-Concat, rolls-Flatten, rolls-Split, rolls-Transpose, rolls-TruncL, rolls-TruncR, rolls-PadL, rolls-PadR}
+use Rattle.term_tree.specs.declared.term.Term.TheVariants.{Index, Gen, Sum, Guard, Let, Add, Sub, Mul, Concat, Flatten, Split, Transpose, TruncL, TruncR, PadL}
+use Rattle.term_tree.specs.declared.term.Term.TheVariants.{PadR, rolls-Index, rolls-Gen, rolls-Sum, rolls-Guard, rolls-Let, rolls-Add, rolls-Sub, rolls-Mul}
+use Rattle.term_tree.specs.declared.term.Term.TheVariants.{rolls-Concat, rolls-Flatten, rolls-Split, rolls-Transpose, rolls-TruncL, rolls-TruncR, rolls-PadL}
+use Rattle.term_tree.specs.declared.term.Term.TheVariants.{rolls-PadR}
 use Rattle.term_tree.specs.Goals.{extents_or_none}
 use Rattle.term_tree.specs.Shape.{Extents, of_concat, of_equal, of_words}
 use Rattle.shape_rules.specs.Faults.{IsAnswer}
@@ -59,17 +62,20 @@ walked-Mul a b ts = ap (λ f. f ts) (ap walked (sym (rolls-Mul a b)) ∙ fold-ro
 pub walked-Concat : (a b : Term) (ts : List Extents) → walked (Concat a b) ts ≡ two (walked a ts) (walked b ts) of_concat
 walked-Concat a b ts = ap (λ f. f ts) (ap walked (sym (rolls-Concat a b)) ∙ fold-roll-Term Walking walked_step (Term-F.Concat a b))
 
-pub walked-Let : (a b : Term) (ts : List Extents) → walked (Let a b) ts ≡ two (walked a ts) (walked b (extents_or_none (walked a ts).shape ∷ ts)) (λ ns ms. Ok ms)
+pub walked-Let : (a b : Term) (ts : List Extents)
+    → walked (Let a b) ts ≡ two (walked a ts) (walked b (extents_or_none (walked a ts).shape ∷ ts)) (λ ns ms. Ok ms)
 walked-Let a b ts = ap (λ f. f ts) (ap walked (sym (rolls-Let a b)) ∙ fold-roll-Term Walking walked_step (Term-F.Let a b))
 
 pub told_shape : (w v : Walked) (result : Result Extents Trouble) → w ≡ v → IsAnswer v.shape result → IsAnswer w.shape result
 told_shape w v result e h = subst (λ (w : Walked). IsAnswer w.shape result) (sym e) h
 
-pub told_goals : (w v : Walked) (result : Result Extents Trouble) (g0 g1 : List Items) → w ≡ v → OnOk result (g1 ≡ g0 ++ v.goals) → OnOk result (g1 ≡ g0 ++ w.goals)
+pub told_goals : (w v : Walked) (result : Result Extents Trouble) (g0 g1 : List Items) → w ≡ v → OnOk result (g1 ≡ g0 ++ v.goals)
+    → OnOk result (g1 ≡ g0 ++ w.goals)
 told_goals w v result g0 g1 e h = subst (λ (w : Walked). OnOk result (g1 ≡ g0 ++ w.goals)) (sym e) h
 
 -- the goals of the first operand, then those of the second
-pub two_goals : {T : Type 0} (result : Result Extents Trouble) (both : Result T Trouble) (child : Result Extents Trouble) (g0 g1 g2 ga gb : List Items) → OnOk result (IsOk both) → OnOk both (IsOk child)
+pub two_goals : {T : Type 0} (result : Result Extents Trouble) (both : Result T Trouble) (child : Result Extents Trouble) (g0 g1 g2 ga gb : List Items)
+    → OnOk result (IsOk both) → OnOk both (IsOk child)
     → OnOk child (g1 ≡ g0 ++ ga) → OnOk both (g2 ≡ g1 ++ gb) → OnOk result (g2 ≡ g0 ++ (ga ++ gb))
 two_goals (Ok ms) (Ok o) (Ok ns) g0 g1 g2 ga gb h i j k = k ∙ ap (λ g. g ++ gb) j ∙ append_assoc g0 ga gb
 two_goals {T} (Ok ms) (Ok o) (Err t) g0 g1 g2 ga gb h i j k = absurd (let q : IsOk {T = Extents} (Err t) = i in cc)
@@ -77,11 +83,13 @@ two_goals {T} (Ok ms) (Err t) child g0 g1 g2 ga gb h i j k = absurd (let q : IsO
 two_goals (Err t) both child g0 g1 g2 ga gb h i j k = tt
 
 -- the same of a form that is one of two, with the operands as they were read
-pub padded : (t : Term) (n : Aff) (e e' : Term) (ts : List Extents) → (t ≡ PadL n e) ⊎ (t ≡ PadR n e) → e' ≡ e → walked t ts ≡ one (walked e' ts) (more_shape n) (n ∷ [])
+pub padded : (t : Term) (n : Aff) (e e' : Term) (ts : List Extents) → (t ≡ PadL n e) ⊎ (t ≡ PadR n e) → e' ≡ e
+    → walked t ts ≡ one (walked e' ts) (more_shape n) (n ∷ [])
 padded t n e e' ts (inl h) g = ap (λ t. walked t ts) h ∙ walked-PadL n e ts ∙ ap (λ e. one (walked e ts) (more_shape n) (n ∷ [])) (sym g)
 padded t n e e' ts (inr h) g = ap (λ t. walked t ts) h ∙ walked-PadR n e ts ∙ ap (λ e. one (walked e ts) (more_shape n) (n ∷ [])) (sym g)
 
-pub added : (t a b a' b' : Term) (ts : List Extents) → (t ≡ Add a b) ⊎ (t ≡ Sub a b) → a' ≡ a → b' ≡ b → walked t ts ≡ two (walked a' ts) (walked b' ts) of_equal
+pub added : (t a b a' b' : Term) (ts : List Extents) → (t ≡ Add a b) ⊎ (t ≡ Sub a b) → a' ≡ a → b' ≡ b
+    → walked t ts ≡ two (walked a' ts) (walked b' ts) of_equal
 added t a b a' b' ts (inl h) f g = ap (λ t. walked t ts) h ∙ walked-Add a b ts ∙ (λ i. two (walked (sym f i) ts) (walked (sym g i) ts) of_equal)
 added t a b a' b' ts (inr h) f g = ap (λ t. walked t ts) h ∙ walked-Sub a b ts ∙ (λ i. two (walked (sym f i) ts) (walked (sym g i) ts) of_equal)
 
@@ -91,13 +99,15 @@ multiplied t a b a' b' ts h f g = ap (λ t. walked t ts) h ∙ walked-Mul a b ts
 pub joined_rows : (t a b a' b' : Term) (ts : List Extents) → t ≡ Concat a b → a' ≡ a → b' ≡ b → walked t ts ≡ two (walked a' ts) (walked b' ts) of_concat
 joined_rows t a b a' b' ts h f g = ap (λ t. walked t ts) h ∙ walked-Concat a b ts ∙ (λ i. two (walked (sym f i) ts) (walked (sym g i) ts) of_concat)
 
-pub bound_in : (t a b a' b' : Term) (ts : List Extents) → t ≡ Let a b → a' ≡ a → b' ≡ b → walked t ts ≡ two (walked a' ts) (walked b' (extents_or_none (walked a' ts).shape ∷ ts)) (λ ns ms. Ok ms)
+pub bound_in : (t a b a' b' : Term) (ts : List Extents) → t ≡ Let a b → a' ≡ a → b' ≡ b
+    → walked t ts ≡ two (walked a' ts) (walked b' (extents_or_none (walked a' ts).shape ∷ ts)) (λ ns ms. Ok ms)
 bound_in t a b a' b' ts h f g =
     ap (λ t. walked t ts) h ∙ walked-Let a b ts
     ∙ (λ i. two (walked (sym f i) ts) (walked (sym g i) (extents_or_none (walked (sym f i) ts).shape ∷ ts)) (λ ns ms. Ok ms))
 
 -- the goals of a definition, then those of the body
-pub let_goals : (result child : Result Extents Trouble) (g0 g1 g2 ga gb : List Items) → OnOk result (IsOk child) → OnOk child (g1 ≡ g0 ++ ga) → OnOk result (g2 ≡ g1 ++ gb) → OnOk result (g2 ≡ g0 ++ (ga ++ gb))
+pub let_goals : (result child : Result Extents Trouble) (g0 g1 g2 ga gb : List Items) → OnOk result (IsOk child) → OnOk child (g1 ≡ g0 ++ ga)
+    → OnOk result (g2 ≡ g1 ++ gb) → OnOk result (g2 ≡ g0 ++ (ga ++ gb))
 let_goals (Ok ms) (Ok ns) g0 g1 g2 ga gb h i j = j ∙ ap (λ g. g ++ gb) i ∙ append_assoc g0 ga gb
 let_goals (Ok ms) (Err t) g0 g1 g2 ga gb h i j = absurd (let q : IsOk {T = Extents} (Err t) = h in cc)
 let_goals (Err t) child g0 g1 g2 ga gb h i j = tt

@@ -60,7 +60,8 @@ ShapesFit (let_in a b) s ds = ShapesFit a s ds × ShapesFit b s (dims a s ds ∷
 ShapesFit (add a b) s ds = (dims b s ds ≡ dims a s ds) × ShapesFit a s ds × ShapesFit b s ds
 ShapesFit (sub a b) s ds = (dims b s ds ≡ dims a s ds) × ShapesFit a s ds × ShapesFit b s ds
 ShapesFit (mul a b) s ds = ((dims a s ds ≡ []) × (dims b s ds ≡ [])) × ShapesFit a s ds × ShapesFit b s ds
-ShapesFit (concat a b) s ds = (HasFirst (dims a s ds) × HasFirst (dims b s ds) × (tail_of (dims b s ds) ≡ tail_of (dims a s ds))) × ShapesFit a s ds × ShapesFit b s ds
+ShapesFit (concat a b) s ds = (HasFirst (dims a s ds) × HasFirst (dims b s ds) × (tail_of (dims b s ds) ≡ tail_of (dims a s ds))) × ShapesFit a s ds
+    × ShapesFit b s ds
 ShapesFit (flatten e) s ds = HasTwo (dims e s ds) × ShapesFit e s ds
 ShapesFit (split k e) s ds = HasFirst (dims e s ds) × ShapesFit e s ds
 ShapesFit (transpose e) s ds = HasTwo (dims e s ds) × ShapesFit e s ds

@@ -5,9 +5,12 @@ use Rattle.affine_index.specs.declared.cond.Cond.{Cond}
 use Rattle.term_tree.specs.declared.term.Term.{Term, Lit, TVar, WordOf}
 use Rattle.term_tree.specs.declared.term.Term.TheOpen.{Term-F}
 use Rattle.term_tree.specs.declared.term.Term.TheFolds.{fold-Term, fold-roll-Term}
-use Rattle.term_tree.specs.declared.term.Term.TheVariants.{rolls-Lit, rolls-TVar, rolls-WordOf, rolls-Index, rolls-Gen, rolls-Sum, rolls-Guard, rolls-Let, rolls-Add, rolls-Sub, rolls-Mul, rolls-Concat, rolls-Flatten, rolls-Split, rolls-Transpose, rolls-TruncL, rolls-TruncR, rolls-PadL, rolls-PadR}
+use Rattle.term_tree.specs.declared.term.Term.TheVariants.{rolls-Lit, rolls-TVar, rolls-WordOf, rolls-Index, rolls-Gen, rolls-Sum, rolls-Guard, rolls-Let}
+use Rattle.term_tree.specs.declared.term.Term.TheVariants.{rolls-Add, rolls-Sub, rolls-Mul, rolls-Concat, rolls-Flatten, rolls-Split, rolls-Transpose}
+use Rattle.term_tree.specs.declared.term.Term.TheVariants.{rolls-TruncL, rolls-TruncR, rolls-PadL, rolls-PadR}
 use Rattle.term_tree.specs.Syntax.{index, gen, sum, guard, let_in, add, sub, mul, concat, flatten, split, transpose, trunc_l, trunc_r, pad_l, pad_r}
-use Rattle.term_tree.proofs.Forms.{Index-is, Gen-is, Sum-is, Guard-is, Let-is, Add-is, Sub-is, Mul-is, Concat-is, Flatten-is, Split-is, Transpose-is, TruncL-is, TruncR-is, PadL-is, PadR-is}
+use Rattle.term_tree.proofs.Forms.{Index-is, Gen-is, Sum-is, Guard-is, Let-is, Add-is, Sub-is, Mul-is, Concat-is, Flatten-is, Split-is, Transpose-is, TruncL-is}
+use Rattle.term_tree.proofs.Forms.{TruncR-is, PadL-is, PadR-is}
 
 module _ (A : Type 0) (step : Term-F A → A) where
   pub fold-lit : (w : ℕ) → fold-Term A step (Lit w) ≡ step (Term-F.Lit w)

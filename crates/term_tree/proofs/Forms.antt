@@ -4,7 +4,8 @@ use denote.Hole.Carrier.{hidden}
 use Rattle.affine_index.specs.declared.aff.Aff.{Aff}
 use Rattle.affine_index.specs.declared.cond.Cond.{Cond}
 use Rattle.term_tree.specs.declared.term.Term.{Term}
-use Rattle.term_tree.specs.declared.term.Term.TheVariants.{Index, Gen, Sum, Guard, Let, Add, Sub, Mul, Concat, Flatten, Split, Transpose, TruncL, TruncR, PadL, PadR}
+use Rattle.term_tree.specs.declared.term.Term.TheVariants.{Index, Gen, Sum, Guard, Let, Add, Sub, Mul, Concat, Flatten, Split, Transpose, TruncL, TruncR, PadL}
+use Rattle.term_tree.specs.declared.term.Term.TheVariants.{PadR}
 use Rattle.term_tree.specs.declared.term.Term.TheBlock.{shape-the_row-Term-0, hidden-the_row-Term-0}
 use Rattle.term_tree.specs.Syntax.{index, gen, sum, guard, let_in, add, sub, mul, concat, flatten, split, transpose, trunc_l, trunc_r, pad_l, pad_r}
 
@@ -72,4 +73,5 @@ pub PadR-is : (n : Aff) (e : Term) → PadR n e ≡ pad_r n e
 unfolding shape-the_row-Term-0 hidden-the_row-Term-0 hidden
 PadR-is n e = refl
 
-pub ruleset term_forms = (Index-is, Gen-is, Sum-is, Guard-is, Let-is, Add-is, Sub-is, Mul-is, Concat-is, Flatten-is, Split-is, Transpose-is, TruncL-is, TruncR-is, PadL-is, PadR-is)
+pub ruleset term_forms = (Index-is, Gen-is, Sum-is, Guard-is, Let-is, Add-is, Sub-is, Mul-is, Concat-is, Flatten-is, Split-is, Transpose-is, TruncL-is,
+    TruncR-is, PadL-is, PadR-is)

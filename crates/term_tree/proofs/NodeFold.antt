@@ -4,7 +4,8 @@ use Rattle.term_tree.specs.Counts.{node_count, node_fold, count_step, node_depth
 use Rattle.term_tree.specs.declared.term.Term.{Term, Lit, TVar, WordOf}
 use Rattle.term_tree.specs.declared.term.Term.TheFolds.{fold-Term}
 use Rattle.term_tree.specs.Syntax.{index, gen, sum, guard, let_in, add, sub, mul, concat, flatten, split, transpose, trunc_l, trunc_r, pad_l, pad_r}
-use Rattle.term_tree.proofs.Folds.{fold-lit, fold-t_var, fold-word_of, fold-index, fold-gen, fold-sum, fold-guard, fold-let_in, fold-add, fold-sub, fold-mul, fold-concat, fold-flatten, fold-split, fold-transpose, fold-trunc_l, fold-trunc_r, fold-pad_l, fold-pad_r}
+use Rattle.term_tree.proofs.Folds.{fold-lit, fold-t_var, fold-word_of, fold-index, fold-gen, fold-sum, fold-guard, fold-let_in, fold-add, fold-sub, fold-mul}
+use Rattle.term_tree.proofs.Folds.{fold-concat, fold-flatten, fold-split, fold-transpose, fold-trunc_l, fold-trunc_r, fold-pad_l, fold-pad_r}
 
 pub node_count-fold : (e : Term) → node_count e ≡ node_fold e
 node_count-fold (Lit w) = sym (fold-lit ℕ count_step w)

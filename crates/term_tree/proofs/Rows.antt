@@ -91,7 +91,8 @@ product_with_vector = gen (size_form 0) (sum (size_form 1) (mul (index (entry 0 
 empty_sum : flat (den product_with_vector (2 ∷ 0 ∷ []) [] ((2 ∷ 0 ∷ [], table ([] ∷ [] ∷ [])) ∷ (0 ∷ [], End) ∷ [])) ≡ 0 ∷ 0 ∷ []
 empty_sum = simp row_laws
 
-summed : flat (den product_with_vector (2 ∷ 2 ∷ []) [] ((2 ∷ 2 ∷ [], table ((1 ∷ 2 ∷ []) ∷ (3 ∷ 4 ∷ []) ∷ [])) ∷ (2 ∷ [], line (10 ∷ 1 ∷ [])) ∷ [])) ≡ 12 ∷ 34 ∷ []
+summed : flat (den product_with_vector (2 ∷ 2 ∷ []) [] ((2 ∷ 2 ∷ [], table ((1 ∷ 2 ∷ []) ∷ (3 ∷ 4 ∷ []) ∷ [])) ∷ (2 ∷ [], line (10 ∷ 1 ∷ [])) ∷ [])) ≡ 12 ∷ 34
+    ∷ []
 summed = simp row_laws
 
 -- a sum over no index of rows of three words is three zeros
@@ -140,12 +141,14 @@ two_columns : flat (den columns_first (2 ∷ []) [] ((2 ∷ 5 ∷ [], table ((1 
 two_columns = simp row_laws
 
 -- gen i < 2. let t = guard i == 0. A[0] in t
-guarded_let : flat (den (gen (literal_form (pos 2)) (let_in (guard (record { all = Eq (var_form 0) ∷ [] }) (index (TVar 0) (literal_form (pos 0)))) (TVar 0))) [] [] ((1 ∷ [], line (7 ∷ [])) ∷ []))
+guarded_let : flat (den (gen (literal_form (pos 2)) (let_in (guard (record { all = Eq (var_form 0) ∷ [] }) (index (TVar 0) (literal_form (pos 0)))) (TVar 0)))
+    [] [] ((1 ∷ [], line (7 ∷ [])) ∷ []))
     ≡ 7 ∷ 0 ∷ []
 guarded_let = simp row_laws
 
 -- gen i < N. let t = A[0] * 2 in t + A[i]: in the definition A is variable 0, in the body variable 1
-let_before_input : flat (den (gen (size_form 0) (let_in (mul (index (TVar 0) (literal_form (pos 0))) (Lit 2)) (add (TVar 0) (entry 1 0)))) (3 ∷ []) [] ((3 ∷ [], line (1 ∷ 2 ∷ 3 ∷ [])) ∷ []))
+let_before_input : flat (den (gen (size_form 0) (let_in (mul (index (TVar 0) (literal_form (pos 0))) (Lit 2)) (add (TVar 0) (entry 1 0)))) (3 ∷ []) []
+    ((3 ∷ [], line (1 ∷ 2 ∷ 3 ∷ [])) ∷ []))
     ≡ 3 ∷ 4 ∷ 5 ∷ []
 let_before_input = simp row_laws
 
@@ -154,7 +157,8 @@ inner_let_first : den (let_in (Lit 1) (let_in (Lit 2) (sub (TVar 1) (TVar 0)))) 
 inner_let_first = refl
 
 -- concat(flatten(A), C)
-joined_rows : flat (den (concat (flatten (gen (size_form 0) (gen (size_form 1) (index (entry 0 1) (var_form 0))))) (gen (size_form 2) (entry 1 0))) (2 ∷ 2 ∷ 1 ∷ []) []
+joined_rows : flat (den (concat (flatten (gen (size_form 0) (gen (size_form 1) (index (entry 0 1) (var_form 0))))) (gen (size_form 2) (entry 1 0)))
+    (2 ∷ 2 ∷ 1 ∷ []) []
     ((2 ∷ 2 ∷ [], table ((1 ∷ 2 ∷ []) ∷ (3 ∷ 4 ∷ []) ∷ [])) ∷ (1 ∷ [], line (9 ∷ [])) ∷ [])) ≡ 1 ∷ 2 ∷ 3 ∷ 4 ∷ 9 ∷ []
 joined_rows = simp row_laws
 
@@ -197,7 +201,8 @@ abbrev windows : Items
 windows = record { terms = record { atom = Size 0; coefficient = pos 1 } ∷ record { atom = Size 1; coefficient = negsuc 0 } ∷ []; constant = pos 1 }
 
 -- gen i < N - K + 1. sum j < K. A[i + j] * W[j]
-convolved : flat (den (gen windows (sum (size_form 1) (mul (index (TVar 0) both) (entry 1 0)))) (5 ∷ 2 ∷ []) [] ((5 ∷ [], line (1 ∷ 2 ∷ 3 ∷ 4 ∷ 5 ∷ [])) ∷ (2 ∷ [], line (10 ∷ 1 ∷ [])) ∷ []))
+convolved : flat (den (gen windows (sum (size_form 1) (mul (index (TVar 0) both) (entry 1 0)))) (5 ∷ 2 ∷ []) []
+    ((5 ∷ [], line (1 ∷ 2 ∷ 3 ∷ 4 ∷ 5 ∷ [])) ∷ (2 ∷ [], line (10 ∷ 1 ∷ [])) ∷ []))
     ≡ 12 ∷ 23 ∷ 34 ∷ 45 ∷ []
 convolved = simp row_laws
 
@@ -222,7 +227,8 @@ abbrev at_path : List ℕ → Cause → Shaped
 at_path steps cause = Err (record { steps = steps; cause = cause })
 
 abbrev eight : Extents
-eight = literal_form (pos 1) ∷ literal_form (pos 1) ∷ literal_form (pos 1) ∷ literal_form (pos 1) ∷ literal_form (pos 1) ∷ literal_form (pos 1) ∷ literal_form (pos 1) ∷ literal_form (pos 1) ∷ []
+eight = literal_form (pos 1) ∷ literal_form (pos 1) ∷ literal_form (pos 1) ∷ literal_form (pos 1) ∷ literal_form (pos 1) ∷ literal_form (pos 1)
+    ∷ literal_form (pos 1) ∷ literal_form (pos 1) ∷ []
 
 -- an input of nine extents, also where a row is taken of it
 nine_extents : shape_of (TVar 0) ((literal_form (pos 1) ∷ eight) ∷ []) ≡ at_path [] RankTooLarge
@@ -263,7 +269,9 @@ rank_nine = simp form_laws
 gen_rank_nine : shape_of (gen (literal_form (pos 1)) (TVar 0)) (eight ∷ []) ≡ at_path [] RankTooLarge
 gen_rank_nine = simp form_laws
 
-rank_eight : shape_of (flatten (TVar 0)) (eight ∷ []) ≡ Ok (literal_form (pos 1) ∷ literal_form (pos 1) ∷ literal_form (pos 1) ∷ literal_form (pos 1) ∷ literal_form (pos 1) ∷ literal_form (pos 1) ∷ literal_form (pos 1) ∷ [])
+rank_eight : shape_of (flatten (TVar 0)) (eight ∷ []) ≡ Ok
+    (literal_form (pos 1) ∷ literal_form (pos 1) ∷ literal_form (pos 1) ∷ literal_form (pos 1) ∷ literal_form (pos 1) ∷ literal_form (pos 1)
+    ∷ literal_form (pos 1) ∷ [])
 rank_eight = simp form_laws
 
 -- N + 3
@@ -271,7 +279,8 @@ abbrev three_more : Items
 three_more = record { terms = record { atom = Size 0; coefficient = pos 1 } ∷ []; constant = pos 3 }
 
 -- (N + 3)/4 chunks of 4
-chunked : shape_of (split 4 (TVar 0)) vector ≡ Ok (record { terms = record { atom = Div three_more 4; coefficient = pos 1 } ∷ []; constant = pos 0 } ∷ literal_form (pos 4) ∷ [])
+chunked : shape_of (split 4 (TVar 0)) vector ≡ Ok
+    (record { terms = record { atom = Div three_more 4; coefficient = pos 1 } ∷ []; constant = pos 0 } ∷ literal_form (pos 4) ∷ [])
 chunked = simp form_laws
 
 -- let t = A in flatten(t), and let t = flatten(A) in 1
@@ -295,14 +304,17 @@ turned : shape_of (transpose (TVar 0)) grid ≡ Ok (size_form 1 ∷ size_form 0 
 turned = simp form_laws
 
 -- N * M
-flattened : shape_of (flatten (TVar 0)) grid ≡ Ok (record { terms = record { atom = Mul (Size 0 ∷ Size 1 ∷ []); coefficient = pos 1 } ∷ []; constant = pos 0 } ∷ literal_form (pos 3) ∷ [])
+flattened : shape_of (flatten (TVar 0)) grid ≡ Ok
+    (record { terms = record { atom = Mul (Size 0 ∷ Size 1 ∷ []); coefficient = pos 1 } ∷ []; constant = pos 0 } ∷ literal_form (pos 3) ∷ [])
 flattened = simp form_laws
 
 -- N - 2 and N + M
-shortened : shape_of (trunc_l (literal_form (pos 2)) (TVar 0)) vector ≡ Ok (record { terms = record { atom = Size 0; coefficient = pos 1 } ∷ []; constant = negsuc 1 } ∷ [])
+shortened : shape_of (trunc_l (literal_form (pos 2)) (TVar 0)) vector ≡ Ok
+    (record { terms = record { atom = Size 0; coefficient = pos 1 } ∷ []; constant = negsuc 1 } ∷ [])
 shortened = simp form_laws
 
-padded : shape_of (pad_r (size_form 1) (TVar 0)) vector ≡ Ok (record { terms = record { atom = Size 0; coefficient = pos 1 } ∷ record { atom = Size 1; coefficient = pos 1 } ∷ []; constant = pos 0 } ∷ [])
+padded : shape_of (pad_r (size_form 1) (TVar 0)) vector ≡ Ok
+    (record { terms = record { atom = Size 0; coefficient = pos 1 } ∷ record { atom = Size 1; coefficient = pos 1 } ∷ []; constant = pos 0 } ∷ [])
 padded = simp form_laws
 
 -- 2^40 words, and one more
@@ -314,7 +326,8 @@ too_large = simp form_laws
 
 -- truncr(a, gen i < N. 1): a, N - a, N
 trunc_goals : term_goals (trunc_r (size_form 1) (gen (size_form 0) (Lit 1))) []
-    ≡ size_form 1 ∷ record { terms = record { atom = Size 0; coefficient = pos 1 } ∷ record { atom = Size 1; coefficient = negsuc 0 } ∷ []; constant = pos 0 } ∷ size_form 0 ∷ []
+    ≡ size_form 1 ∷ record { terms = record { atom = Size 0; coefficient = pos 1 } ∷ record { atom = Size 1; coefficient = negsuc 0 } ∷ []; constant = pos 0 }
+        ∷ size_form 0 ∷ []
 trunc_goals = simp form_laws
 
 -- let t = gen i < N. 1 in truncl(2, t): those of the definition, then those of the body, where t has N rows
@@ -347,7 +360,8 @@ two_outputs = record {
   assumes = [];
   example = 3 ∷ [];
   inputs = record { name = []; extents = size_form 0 ∷ [] } ∷ [];
-  outputs = record { name = []; term = gen (size_form 0) (mul (entry 0 0) (WordOf (record { terms = record { atom = Var 0; coefficient = pos 1 } ∷ []; constant = pos 1 }))) }
+  outputs = record { name = []; term =
+      gen (size_form 0) (mul (entry 0 0) (WordOf (record { terms = record { atom = Var 0; coefficient = pos 1 } ∷ []; constant = pos 1 }))) }
       ∷ record { name = []; term = sum (size_form 0) (WordOf before) } ∷ [];
 }
 
@@ -377,19 +391,22 @@ sound = record {
   scoped = simp scope_laws;
   ranks = All-from_recursion (λ d. length d.extents ≤ 8) two_outputs.inputs (omega arith, tt);
   shaped = All-from_recursion (λ o. IsOk (shape_of o.term vector)) two_outputs.outputs (simp form_laws refl, (refl, tt));
-  positive = λ s a. All-from_recursion (λ n. at_least_zero (items_value s [] n) ≡ true) (extent_goals two_outputs) (not_negative s, (not_negative s, (not_negative s, tt)));
+  positive = λ s a. All-from_recursion (λ n. at_least_zero (items_value s [] n) ≡ true) (extent_goals two_outputs)
+      (not_negative s, (not_negative s, (not_negative s, tt)));
 }
 
 -- output B = gen i < N - 1. 1, where N may be 0
 abbrev unsound : Module
-unsound = record { version = 1; sizes = record { name = []; low = 0; high = 8 } ∷ []; assumes = []; example = 3 ∷ []; inputs = []; outputs = record { name = []; term = gen less_one (Lit 1) } ∷ [] }
+unsound = record { version = 1; sizes = record { name = []; low = 0; high = 8 } ∷ []; assumes = []; example = 3 ∷ []; inputs = []; outputs =
+    record { name = []; term = gen less_one (Lit 1) } ∷ [] }
 
 negative : at_least_zero (items_value (0 ∷ []) [] less_one) ≡ false
 negative = simp row_laws
 
 not_sound : IsSound unsound → ⊥
 not_sound m =
-    let positive : at_least_zero (items_value (0 ∷ []) [] less_one) ≡ true = m.positive (0 ∷ []) (record { within = (omega arith, omega arith, tt); assumed = refl }) 0 less_one (omega arith) in
+    let positive : at_least_zero (items_value (0 ∷ []) [] less_one) ≡ true =
+        m.positive (0 ∷ []) (record { within = (omega arith, omega arith, tt); assumed = refl }) 0 less_one (omega arith) in
     absurd (false≢true (sym negative ∙ positive))
 
 -- a variable stands in an index and not in an extent
@@ -414,7 +431,8 @@ no_comparison = refl
 
 -- N * M + K words, one behind another
 concatenated : shape_of (concat (flatten (TVar 0)) (TVar 1)) ((size_form 0 ∷ size_form 1 ∷ []) ∷ (size_form 2 ∷ []) ∷ [])
-    ≡ Ok (record { terms = record { atom = Size 2; coefficient = pos 1 } ∷ record { atom = Mul (Size 0 ∷ Size 1 ∷ []); coefficient = pos 1 } ∷ []; constant = pos 0 } ∷ [])
+    ≡ Ok (record { terms = record { atom = Size 2; coefficient = pos 1 } ∷ record { atom = Mul (Size 0 ∷ Size 1 ∷ []); coefficient = pos 1 } ∷ []; constant =
+        pos 0 } ∷ [])
 concatenated = simp form_laws
 
 unequal_rows : shape_of (concat (TVar 0) (TVar 1)) ((size_form 0 ∷ size_form 1 ∷ []) ∷ (size_form 2 ∷ size_form 0 ∷ []) ∷ []) ≡ at_path [] ShapesDiffer
@@ -447,7 +465,8 @@ scaling_depth = refl
 
 -- let s = gen i < N. gen j < N. sum d < D. Q[i][d] * transpose(K)[d][j] in gen i < N. gen e < D. sum j < N. s[i][j] * V[j][e]
 abbrev scores : Term
-scores = let_in (gen (size_form 0) (gen (size_form 0) (sum (size_form 1) (mul (index (entry 0 2) (var_form 0)) (index (index (transpose (TVar 1)) (var_form 0)) (var_form 1))))))
+scores = let_in (gen (size_form 0)
+    (gen (size_form 0) (sum (size_form 1) (mul (index (entry 0 2) (var_form 0)) (index (index (transpose (TVar 1)) (var_form 0)) (var_form 1))))))
     (gen (size_form 0) (gen (size_form 1) (sum (size_form 0) (mul (index (entry 0 2) (var_form 0)) (index (entry 3 0) (var_form 1))))))
 
 scored : flat (den scores (2 ∷ 2 ∷ []) [] ((2 ∷ 2 ∷ [], table ((1 ∷ 2 ∷ []) ∷ (3 ∷ 4 ∷ []) ∷ []))
@@ -455,7 +474,9 @@ scored : flat (den scores (2 ∷ 2 ∷ []) [] ((2 ∷ 2 ∷ [], table ((1 ∷ 2 
 scored = simp row_laws
 
 -- a coefficient is refused before a length
-coefficient_first : shape_of (pad_l (literal_form (pos 1)) (TVar 0)) ((record { terms = record { atom = Mul (replicate 129 (Size 0)); coefficient = pos 1 } ∷ []; constant = pos 1099511627777 } ∷ []) ∷ []) ≡ at_path (0 ∷ []) CoefficientTooLarge
+coefficient_first : shape_of (pad_l (literal_form (pos 1)) (TVar 0))
+    ((record { terms = record { atom = Mul (replicate 129 (Size 0)); coefficient = pos 1 } ∷ []; constant = pos 1099511627777 } ∷ []) ∷ []) ≡ at_path (0 ∷ [])
+    CoefficientTooLarge
 coefficient_first = refl
 
 sum_shape : shape_of (sum (size_form 1) (guard (record { all = Ge (var_form 0) ∷ [] }) (TVar 0))) vector ≡ Ok (size_form 0 ∷ [])
@@ -465,7 +486,8 @@ row_shape : shape_of (index (TVar 0) (var_form 0)) grid ≡ Ok (size_form 1 ∷ 
 row_shape = simp form_laws
 
 -- both operands in order, and through a guard, a row, a transposition and tiles
-operand_goals : term_goals (concat (mul (gen (size_form 0) (Lit 1)) (sum (size_form 1) (Lit 2))) (split 2 (flatten (transpose (guard (record { all = Ge (var_form 0) ∷ [] }) (index (gen (size_form 2) (TVar 0)) (var_form 0))))))) vector
+operand_goals : term_goals (concat (mul (gen (size_form 0) (Lit 1)) (sum (size_form 1) (Lit 2)))
+    (split 2 (flatten (transpose (guard (record { all = Ge (var_form 0) ∷ [] }) (index (gen (size_form 2) (TVar 0)) (var_form 0))))))) vector
     ≡ size_form 0 ∷ size_form 1 ∷ size_form 2 ∷ []
 operand_goals = refl
 

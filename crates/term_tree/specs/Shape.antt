@@ -1,5 +1,6 @@
 -- The shape rules: the extents of a term as normal forms, or its first node that breaks a rule.
-use Rattle.std.specs.Prelude.{ℕ, zero, suc, ◌+◌, ◌-◌, Bool, true, false, ◌&&◌, if◌then◌else◌, not, nat_le, ◌==◌, List, [], ◌∷◌, length, get_or, ℤ, pos, Result, Ok, Err}
+use Rattle.std.specs.Prelude.{ℕ, zero, suc, ◌+◌, ◌-◌, Bool, true, false, ◌&&◌, if◌then◌else◌, not, nat_le, ◌==◌, List, [], ◌∷◌, length, get_or, ℤ, pos, Result}
+use Rattle.std.specs.Prelude.{Ok, Err}
 use Rattle.std.specs.Ordering.{is_eq}
 use Rattle.affine_index.specs.declared.form.Items.{Items}
 use Rattle.affine_index.specs.Form.{literal_form}

@@ -2,7 +2,8 @@
 use Rattle.std.specs.Prelude.{ℕ}
 use Rattle.affine_index.specs.declared.aff.Aff.{Aff}
 use Rattle.affine_index.specs.declared.cond.Cond.{Cond}
-use Rattle.term_tree.specs.declared.term.Term.{Term, Index', Gen', Sum', Guard', Let', Add', Sub', Mul', Concat', Flatten', Split', Transpose', TruncL', TruncR', PadL', PadR', end_of-Term, more_of-Term}
+use Rattle.term_tree.specs.declared.term.Term.{Term, Index', Gen', Sum', Guard', Let', Add', Sub', Mul', Concat', Flatten', Split', Transpose', TruncL'}
+use Rattle.term_tree.specs.declared.term.Term.{TruncR', PadL', PadR', end_of-Term, more_of-Term}
 
 pattern abbrev pub index : Term → Aff → Term
 index e x = Index' tt (more_of-Term e end_of-Term) x

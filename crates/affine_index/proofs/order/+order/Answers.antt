@@ -1,7 +1,8 @@
 use Rattle.std.proofs.Common.{◌≤◌, length, min, arith}
 use Rattle.affine_index.proofs.OrderLaws.{order-Mul, factors-end, terms-end}
 use Rattle.affine_index.proofs.order.+order.Goals as goal
-use Rattle.affine_index.proofs.order.+order.Goals.{order_factors-then-loop-i-test+else-i-b, order_factors-else-loop-i-test, order_terms-then-loop-i-test+else-i-b, order_terms-else-loop-i-test}
+use Rattle.affine_index.proofs.order.+order.Goals.{order_factors-then-loop-i-test+else-i-b, order_factors-else-loop-i-test}
+use Rattle.affine_index.proofs.order.+order.Goals.{order_terms-then-loop-i-test+else-i-b, order_terms-else-loop-i-test}
 
 pub order_atoms-returns-in-Mul-b-2 : goal.order_atoms-returns-in-Mul-b-2
 order_atoms-returns-in-Mul-b-2 t c = cc (order-Mul c.in-Mul.x c.in-Mul-b-2.y)

@@ -7,7 +7,8 @@ use Rattle.atl_meaning.specs.Values.{meant}
 use Rattle.atl_meaning.proofs.evaluate.chunked.Goals as goal
 
 pub extents-requires-clause-fits : goal.extents-requires-clause-fits
-extents-requires-clause-fits c = IfOk-at_ok (λ _. fits_in c.args.sizes.now c.args.term.now c.args.bindings.now ≡ true) (c.in_ok-tensor.was {u = tt}) c.requires.fits
+extents-requires-clause-fits c =
+    IfOk-at_ok (λ _. fits_in c.args.sizes.now c.args.term.now c.args.bindings.now ≡ true) (c.in_ok-tensor.was {u = tt}) c.requires.fits
 
 pub returns-clause-value : goal.returns-clause-value
 returns-clause-value c =
@@ -16,4 +17,5 @@ returns-clause-value c =
     let count = c.chunk_count-count.ensures ∙ ap (λ h. (h + c.args.k - 1) / c.args.k) (c.head_of.ensures ∙ ap head_of (c.as_slice.ensures ∙ found)) in
     let rest = c.tail_of.ensures ∙ ap tail_of (c.as_slice-2.ensures ∙ found) in
     IfOk-weaker c.split.result _ _
-    (λ v e. (tensor, c.in_ok-tensor.was {u = tt}, e ∙ (λ i. from_rows (chunks (count i) (c.from.ensures i) (zeros (rest i)) (rows_of (meant tensor)))))) c.split.ensures
+    (λ v e. (tensor, c.in_ok-tensor.was {u = tt}, e ∙ (λ i. from_rows (chunks (count i) (c.from.ensures i) (zeros (rest i)) (rows_of (meant tensor))))))
+        c.split.ensures

@@ -7,4 +7,5 @@ use Rattle.atl_meaning.proofs.evaluate.shortened_first.Goals as goal
 pub returns : goal.returns
 returns c =
     let tensor = c.in_ok-tensor.tensor in
-    IfOk-weaker c.without_first.result _ _ (λ v e. (tensor, c.in_ok-tensor.was {u = tt}, e ∙ ap (λ n. from_rows (drop n (rows_of (meant tensor)))) c.extent.ensures)) c.without_first.ensures
+    IfOk-weaker c.without_first.result _ _
+        (λ v e. (tensor, c.in_ok-tensor.was {u = tt}, e ∙ ap (λ n. from_rows (drop n (rows_of (meant tensor)))) c.extent.ensures)) c.without_first.ensures

@@ -7,7 +7,8 @@ use Rattle.atl_meaning.specs.Values.{meant}
 use Rattle.atl_meaning.proofs.evaluate.transposed.Goals as goal
 
 pub extents-requires-clause-fits : goal.extents-requires-clause-fits
-extents-requires-clause-fits c = IfOk-at_ok (λ _. fits_in c.args.sizes.now c.args.term.now c.args.bindings.now ≡ true) (c.in_ok-tensor.was {u = tt}) c.requires.fits
+extents-requires-clause-fits c =
+    IfOk-at_ok (λ _. fits_in c.args.sizes.now c.args.term.now c.args.bindings.now ≡ true) (c.in_ok-tensor.was {u = tt}) c.requires.fits
 
 pub returns-clause-value : goal.returns-clause-value
 returns-clause-value c =

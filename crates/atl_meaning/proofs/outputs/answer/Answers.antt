@@ -24,14 +24,16 @@ left_of_limit-requires c =
     let s = c.args.sizes.now in
     let none : first_of (first_big_input m.inputs s) (outputs_surveyed s m.outputs (shapes_of m.inputs)) ≡ None = sym c.in_ok-words.ensures ∙ c.in-None.is in
     ap (outputs_exact s) c.as_slice.ensures
-    ∙ (ready-of s m.inputs m.outputs (shapes_of m.inputs) (inputs-ready m s c.requires.sound c.requires.allowed) (outputs-ready m s c.requires.sound c.requires.allowed) none).1
+    ∙ (ready-of s m.inputs m.outputs (shapes_of m.inputs) (inputs-ready m s c.requires.sound c.requires.allowed)
+        (outputs-ready m s c.requires.sound c.requires.allowed) none).1
 
 pub computed-requires : goal.computed-requires
 computed-requires c =
     let m = c.args.«module».now in
     let s = c.args.sizes.now in
     let none : first_of (first_big_input m.inputs s) (outputs_surveyed s m.outputs (shapes_of m.inputs)) ≡ None = sym c.in_ok-words.ensures ∙ c.in-None.is in
-    let both = ready-of s m.inputs m.outputs (shapes_of m.inputs) (inputs-ready m s c.requires.sound c.requires.allowed) (outputs-ready m s c.requires.sound c.requires.allowed) none in
+    let both = ready-of s m.inputs m.outputs (shapes_of m.inputs) (inputs-ready m s c.requires.sound c.requires.allowed)
+        (outputs-ready m s c.requires.sound c.requires.allowed) none in
     record {
       inputs = both.0;
       outputs = both.1;

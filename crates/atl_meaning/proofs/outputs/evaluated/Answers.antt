@@ -18,14 +18,17 @@ loop-output-preserved c =
     let o = c.output-item.result in
     let t = scope c.args.bindings.now in
     let e = drop-next os k o (omega arith) c.output-item.is in
-    let parts = and_parts (counted s o.term && exact s o.term []) (outputs_exact s (drop (k + 1) os)) (ap (outputs_exact s) (sym e) ∙ c.loop-output.invariant.exact) in
+    let parts = and_parts (counted s o.term && exact s o.term []) (outputs_exact s (drop (k + 1) os))
+        (ap (outputs_exact s) (sym e) ∙ c.loop-output.invariant.exact) in
     let more = ap (λ i. take i os) (add-one k) ∙ take-suc os k o (omega arith) in
-    let here = c.in_ok-evaluate.ensures.value ∙ (λ i. tensor_in s o.term (c.loop-output.invariant.vars i) (c.loop-output.invariant.bindings i)) ∙ ap (λ (o : OutputDecl). (denoted s o.term).tensor [] t) c.output-item.is in
+    let here = c.in_ok-evaluate.ensures.value ∙ (λ i. tensor_in s o.term (c.loop-output.invariant.vars i) (c.loop-output.invariant.bindings i))
+        ∙ ap (λ (o : OutputDecl). (denoted s o.term).tensor [] t) c.output-item.is in
     record {
       vars = c.in_ok-evaluate.ensures.vars ∙ c.loop-output.invariant.vars;
       bindings = c.in_ok-evaluate.ensures.bindings ∙ c.loop-output.invariant.bindings;
       exact = parts.1;
-      fits = (and_parts ((denoted s o.term).fits (extents_of t)) (outputs_fit s (drop (k + 1) os) (extents_of t)) (ap (λ os. outputs_fit s os (extents_of t)) (sym e) ∙ c.loop-output.invariant.fits)).1;
+      fits = (and_parts ((denoted s o.term).fits (extents_of t)) (outputs_fit s (drop (k + 1) os) (extents_of t))
+          (ap (λ os. outputs_fit s os (extents_of t)) (sym e) ∙ c.loop-output.invariant.fits)).1;
       tensors = ap (map meant) c.in_ok-push.ensures.ok ∙ map-last meant c.loop-output.tensors c.in_ok-evaluate.field-0
           ∙ (λ i. c.loop-output.invariant.tensors i ++ here i ∷ [])
           ∙ sym (ap (λ os. outputs_tensors s os t) more ∙ map-append (λ (o : OutputDecl). (denoted s o.term).tensor [] t) (take k os) _);

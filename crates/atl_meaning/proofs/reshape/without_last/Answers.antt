@@ -8,4 +8,5 @@ use Rattle.atl_meaning.proofs.reshape.without_last.Goals as goal
 pub returns : goal.returns
 returns c =
     meant-Row c.in_ok-copied.field-0
-    ∙ ap from_rows (ap (map meant) (c.in_ok-copied.ensures ∙ c.before_last-rows.ensures) ∙ map-drop_last meant c.args.count c.rows_of.result.now ∙ ap (drop_last c.args.count) c.rows_of.ensures)
+    ∙ ap from_rows (ap (map meant) (c.in_ok-copied.ensures ∙ c.before_last-rows.ensures) ∙ map-drop_last meant c.args.count c.rows_of.result.now
+        ∙ ap (drop_last c.args.count) c.rows_of.ensures)

@@ -9,7 +9,9 @@ pub lengthened-requires : goal.lengthened-requires
 lengthened-requires c = IfOk-at_ok (λ f. each_within (lengthened_forms c.args.count.now f.extents) ≡ true) (c.in_ok-child.was {u = tt}) c.requires.within
 
 pub at_node-requires-clause-scoped : goal.at_node-requires-clause-scoped
-at_node-requires-clause-scoped c = ap (extents_scoped (length c.args.sizes.now)) (c.in_ok-extents.ensures {u = tt}) ∙ lengthened-scoped (length c.args.sizes.now) c.args.count.now c.in_ok-child.child.extents c.requires.count (IfOk-at_ok (λ f. extents_scoped (length c.args.sizes.now) f.extents ≡ true) (c.in_ok-child.was {u = tt}) c.requires.scoped)
+at_node-requires-clause-scoped c = ap (extents_scoped (length c.args.sizes.now)) (c.in_ok-extents.ensures {u = tt})
+    ∙ lengthened-scoped (length c.args.sizes.now) c.args.count.now c.in_ok-child.child.extents c.requires.count
+    (IfOk-at_ok (λ f. extents_scoped (length c.args.sizes.now) f.extents ≡ true) (c.in_ok-child.was {u = tt}) c.requires.scoped)
 
 pub returns-clause-found : goal.returns-clause-found
 returns-clause-found c = (c.in_ok-child.child, c.in_ok-child.was {u = tt}, search rules)

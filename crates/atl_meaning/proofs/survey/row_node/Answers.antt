@@ -5,7 +5,9 @@ use Rattle.atl_meaning.proofs.ExtentScopes.{rest-extents}
 use Rattle.atl_meaning.proofs.survey.row_node.Goals as goal
 
 pub at_node-requires-clause-scoped : goal.at_node-requires-clause-scoped
-at_node-requires-clause-scoped c = ap (extents_scoped (length c.args.sizes.now)) c.without_first.ensures ∙ rest-extents (length c.args.sizes.now) c.in_ok-child.child.extents (IfOk-at_ok (λ f. extents_scoped (length c.args.sizes.now) f.extents ≡ true) (c.in_ok-child.was {u = tt}) c.requires.scoped)
+at_node-requires-clause-scoped c = ap (extents_scoped (length c.args.sizes.now)) c.without_first.ensures
+    ∙ rest-extents (length c.args.sizes.now) c.in_ok-child.child.extents
+    (IfOk-at_ok (λ f. extents_scoped (length c.args.sizes.now) f.extents ≡ true) (c.in_ok-child.was {u = tt}) c.requires.scoped)
 
 pub returns-clause-found : goal.returns-clause-found
 returns-clause-found c = (c.in_ok-child.child, c.in_ok-child.was {u = tt}, search rules)

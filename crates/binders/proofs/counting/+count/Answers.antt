@@ -1,5 +1,6 @@
 -- The nodes of a term are those of its parts, and one.
-use Rattle.binders.proofs.CountingLaws.{count-Index, count-Gen, count-Sum, count-Guard, count-Let, count-Add, count-Sub, count-Mul, count-Concat, count-Flatten, count-Split, count-Transpose, count-TruncL, count-TruncR, count-PadL, count-PadR}
+use Rattle.binders.proofs.CountingLaws.{count-Index, count-Gen, count-Sum, count-Guard, count-Let, count-Add, count-Sub, count-Mul, count-Concat, count-Flatten}
+use Rattle.binders.proofs.CountingLaws.{count-Split, count-Transpose, count-TruncL, count-TruncR, count-PadL, count-PadR}
 use Rattle.binders.proofs.counting.+count.Goals as goal
 
 pub count-returns-in-Index : goal.count-returns-in-Index
@@ -91,7 +92,8 @@ count-returns-in-Gen g t c =
     let j = c.args.depths.tensor in
     let w = c.in-Gen in
     let d = c.under_index in
-    count-Gen m r c.args.term.now w.field-0 w.e i j d.result.index d.result.tensor c.more-in-Gen.result w.is d.ensures.index d.ensures.tensor c.more-in-Gen.ensures
+    count-Gen m r c.args.term.now w.field-0 w.e i j d.result.index d.result.tensor c.more-in-Gen.result w.is d.ensures.index d.ensures.tensor
+        c.more-in-Gen.ensures
 
 pub count-returns-in-Sum : goal.count-returns-in-Sum
 count-returns-in-Sum g t c =
@@ -101,7 +103,8 @@ count-returns-in-Sum g t c =
     let j = c.args.depths.tensor in
     let w = c.in-Sum in
     let d = c.under_index-in-Sum in
-    count-Sum m r c.args.term.now w.field-0 w.e i j d.result.index d.result.tensor c.more-in-Sum.result w.is d.ensures.index d.ensures.tensor c.more-in-Sum.ensures
+    count-Sum m r c.args.term.now w.field-0 w.e i j d.result.index d.result.tensor c.more-in-Sum.result w.is d.ensures.index d.ensures.tensor
+        c.more-in-Sum.ensures
 
 pub count-returns-in-Let : goal.count-returns-in-Let
 count-returns-in-Let g t c =
@@ -111,7 +114,8 @@ count-returns-in-Let g t c =
     let j = c.args.depths.tensor in
     let w = c.in-Let in
     let d = c.under_tensor in
-    count-Let m r c.args.term.now w.a w.b i j d.result.index d.result.tensor c.more-in-Let.result c.inner.result c.together.result w.is d.ensures.index d.ensures.tensor c.together.ensures
+    count-Let m r c.args.term.now w.a w.b i j d.result.index d.result.tensor c.more-in-Let.result c.inner.result c.together.result w.is d.ensures.index
+        d.ensures.tensor c.together.ensures
     c.more-in-Let.ensures c.inner.ensures
 
 pub count-returns-in-Add : goal.count-returns-in-Add
@@ -121,7 +125,8 @@ count-returns-in-Add g t c =
     let i = c.args.depths.index in
     let j = c.args.depths.tensor in
     let w = c.in-Add in
-    count-Add m r c.args.term.now w.a w.b i j c.more-in-Add.result c.inner-in-Add.result c.together-in-Add.result w.is c.together-in-Add.ensures c.more-in-Add.ensures c.inner-in-Add.ensures
+    count-Add m r c.args.term.now w.a w.b i j c.more-in-Add.result c.inner-in-Add.result c.together-in-Add.result w.is c.together-in-Add.ensures
+        c.more-in-Add.ensures c.inner-in-Add.ensures
 
 pub count-returns-in-Sub : goal.count-returns-in-Sub
 count-returns-in-Sub g t c =
@@ -130,7 +135,8 @@ count-returns-in-Sub g t c =
     let i = c.args.depths.index in
     let j = c.args.depths.tensor in
     let w = c.in-Sub in
-    count-Sub m r c.args.term.now w.a w.b i j c.more-in-Sub.result c.inner-in-Sub.result c.together-in-Sub.result w.is c.together-in-Sub.ensures c.more-in-Sub.ensures c.inner-in-Sub.ensures
+    count-Sub m r c.args.term.now w.a w.b i j c.more-in-Sub.result c.inner-in-Sub.result c.together-in-Sub.result w.is c.together-in-Sub.ensures
+        c.more-in-Sub.ensures c.inner-in-Sub.ensures
 
 pub count-returns-in-Mul : goal.count-returns-in-Mul
 count-returns-in-Mul g t c =
@@ -139,7 +145,8 @@ count-returns-in-Mul g t c =
     let i = c.args.depths.index in
     let j = c.args.depths.tensor in
     let w = c.in-Mul in
-    count-Mul m r c.args.term.now w.a w.b i j c.more-in-Mul.result c.inner-in-Mul.result c.together-in-Mul.result w.is c.together-in-Mul.ensures c.more-in-Mul.ensures c.inner-in-Mul.ensures
+    count-Mul m r c.args.term.now w.a w.b i j c.more-in-Mul.result c.inner-in-Mul.result c.together-in-Mul.result w.is c.together-in-Mul.ensures
+        c.more-in-Mul.ensures c.inner-in-Mul.ensures
 
 pub count-returns-in-Concat : goal.count-returns-in-Concat
 count-returns-in-Concat g t c =
@@ -148,4 +155,5 @@ count-returns-in-Concat g t c =
     let i = c.args.depths.index in
     let j = c.args.depths.tensor in
     let w = c.in-Concat in
-    count-Concat m r c.args.term.now w.a w.b i j c.more-in-Concat.result c.inner-in-Concat.result c.together-in-Concat.result w.is c.together-in-Concat.ensures c.more-in-Concat.ensures c.inner-in-Concat.ensures
+    count-Concat m r c.args.term.now w.a w.b i j c.more-in-Concat.result c.inner-in-Concat.result c.together-in-Concat.result w.is c.together-in-Concat.ensures
+        c.more-in-Concat.ensures c.inner-in-Concat.ensures

@@ -18,10 +18,12 @@ count-requires g c =
     }
 
 pub over-requires-clause-count : goal.over-requires-clause-count
-over-requires-clause-count g c = c.in-Ok.ensures {u = tt} ∙ ap (λ n. min n (2 ^ 64 - 1)) (mapped_nodes-is (g.M.VarMap.meaning c.args.map.now) c.args.term.now 0 0)
+over-requires-clause-count g c =
+    c.in-Ok.ensures {u = tt} ∙ ap (λ n. min n (2 ^ 64 - 1)) (mapped_nodes-is (g.M.VarMap.meaning c.args.map.now) c.args.term.now 0 0)
 
 pub made-requires-clause-count : goal.made-requires-clause-count
-made-requires-clause-count g c = c.in-Ok.ensures {u = tt} ∙ ap (λ n. min n (2 ^ 64 - 1)) (mapped_nodes-is (g.M.VarMap.meaning c.args.map.now) c.args.term.now 0 0)
+made-requires-clause-count g c =
+    c.in-Ok.ensures {u = tt} ∙ ap (λ n. min n (2 ^ 64 - 1)) (mapped_nodes-is (g.M.VarMap.meaning c.args.map.now) c.args.term.now 0 0)
 
 pub returns-in-Err : goal.returns-in-Err
 returns-in-Err g c =

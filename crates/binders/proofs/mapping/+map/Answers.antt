@@ -3,7 +3,8 @@ use Rattle.std.proofs.Common.{sym}
 use Rattle.std.proofs.lemmas.Result.{err_from_is_err_and}
 use Rattle.term_tree.specs.declared.term.Term.TheVariants.{Index, Gen, Sum, Guard, Let, Add, Sub, Mul, Concat, TruncL, TruncR, PadL, PadR}
 use Rattle.binders.proofs.CauseLaws.{Cause, handed_on, of_same, of_Flatten, of_Split, of_Transpose}
-use Rattle.binders.proofs.PartLaws.{part_handed_on, of-Index, of-Gen, of-Sum, of-Guard, of-Let, of-Add, of-Sub, of-Mul, of-Concat, of-TruncL, of-TruncR, of-PadL, of-PadR}
+use Rattle.binders.proofs.PartLaws.{part_handed_on, of-Index, of-Gen, of-Sum, of-Guard, of-Let, of-Add, of-Sub, of-Mul, of-Concat, of-TruncL, of-TruncR}
+use Rattle.binders.proofs.PartLaws.{of-PadL, of-PadR}
 use Rattle.binders.proofs.mapping.+map.Goals as goal
 
 pub below-returns-in_err-mapped : goal.below-returns-in_err-mapped
@@ -90,7 +91,8 @@ part-returns-in_err-n-in-Sum g t c =
     part_handed_on m r c.args.term.now i j Sum c.copy-in-Sum.result c.below-in-Sum.result c.parts-in-Sum.result c.in_err-n-in-Sum.field-0.0
     p.0 c.from_residual-in_err-n-in-Sum.result c.parts-in-Sum.ensures c.in_err-n-in-Sum.was p.2 p.1
     (of-Sum m r c.args.term.now i j w.n w.e c.under_index-in-Sum.result.index c.under_index-in-Sum.result.tensor
-    c.copy-in-Sum.result c.below-in-Sum.result w.is c.under_index-in-Sum.ensures.index c.under_index-in-Sum.ensures.tensor c.copy-in-Sum.ensures c.below-in-Sum.ensures)
+    c.copy-in-Sum.result c.below-in-Sum.result w.is c.under_index-in-Sum.ensures.index c.under_index-in-Sum.ensures.tensor c.copy-in-Sum.ensures
+        c.below-in-Sum.ensures)
 
 pub part-returns-in_err-c-in-Guard : goal.part-returns-in_err-c-in-Guard
 part-returns-in_err-c-in-Guard g t c =
@@ -115,7 +117,8 @@ part-returns-in_err-a-in-Let g t c =
     part_handed_on m r c.args.term.now i j Let c.below-in-Let.result c.below-in-Let-2.result c.parts-in-Let.result c.in_err-a-in-Let.field-0.0
     p.0 c.from_residual-in_err-a-in-Let.result c.parts-in-Let.ensures c.in_err-a-in-Let.was p.2 p.1
     (of-Let m r c.args.term.now i j w.a w.b c.under_tensor.result.index c.under_tensor.result.tensor
-    c.below-in-Let.result c.below-in-Let-2.result w.is c.under_tensor.ensures.index c.under_tensor.ensures.tensor c.below-in-Let.ensures c.below-in-Let-2.ensures)
+    c.below-in-Let.result c.below-in-Let-2.result w.is c.under_tensor.ensures.index c.under_tensor.ensures.tensor c.below-in-Let.ensures
+        c.below-in-Let-2.ensures)
 
 pub part-returns-in_err-a-in-Add : goal.part-returns-in_err-a-in-Add
 part-returns-in_err-a-in-Add g t c =

@@ -24,19 +24,23 @@ loop-cmp-preserved g c =
     let x = c.cmp-item.result in
     let inv = c.loop-cmp.invariant in
     let e : back ≡ x ∷ rest = drop_more items c.loop-cmp.cmp-index x c.loop-cmp-test.true ∙ ap (λ z. z ∷ rest) (sym c.cmp-item.is) in
-    let within = (or_parts (form_beyond (g.M.VarMap.reach c.args.map.now) i j (cmp_form x)) _ (ap (any_cmp (form_beyond (g.M.VarMap.reach c.args.map.now) i j)) (sym e) ∙ inv.within)).1 in
+    let within = (or_parts (form_beyond (g.M.VarMap.reach c.args.map.now) i j (cmp_form x)) _
+        (ap (any_cmp (form_beyond (g.M.VarMap.reach c.args.map.now) i j)) (sym e) ∙ inv.within)).1 in
     elim c.match-branch-2.branch [
       | in-Some+in_ok-push-in-Some w ↦
-          let h : IsCmp (f x) (λ k. form_causes m r k i j (cmp_form x)) (Ok (Some w.in-Some.cmp)) = subst (λ o. IsCmp (f x) (λ k. form_causes m r k i j (cmp_form x)) (Ok o)) w.in-Some.is c.in_ok-cmp.ensures in
+          let h : IsCmp (f x) (λ k. form_causes m r k i j (cmp_form x)) (Ok (Some w.in-Some.cmp)) =
+              subst (λ o. IsCmp (f x) (λ k. form_causes m r k i j (cmp_form x)) (Ok o)) w.in-Some.is c.in_ok-cmp.ensures in
           record {
             within = within;
             causes = λ k h. inv.causes k (ap (any_cmp (form_causes m r k i j)) e ∙ or_right _ _ h);
             fits = more_fit f items rest back x e coefficients_fit h.1 inv.fits;
             short = ap (λ b. b && each_cmp is_short (map f rest)) w.short-is ∙ more_short f items rest back x e is_short c.loop-cmp.short h.2 inv.short;
-            all = λ s. more_mapped f items rest back x e c.loop-cmp.all c.match-branch-2.all w.in-Some.cmp (w.all-is ∙ w.in_ok-push-in-Some.ensures.ok) h.0 (inv.all (sym w.short-is ∙ s));
+            all = λ s. more_mapped f items rest back x e c.loop-cmp.all c.match-branch-2.all w.in-Some.cmp (w.all-is ∙ w.in_ok-push-in-Some.ensures.ok) h.0
+                (inv.all (sym w.short-is ∙ s));
           }
       | in-None w ↦
-          let h : IsCmp (f x) (λ k. form_causes m r k i j (cmp_form x)) (Ok None) = subst (λ o. IsCmp (f x) (λ k. form_causes m r k i j (cmp_form x)) (Ok o)) w.in-None.is c.in_ok-cmp.ensures in
+          let h : IsCmp (f x) (λ k. form_causes m r k i j (cmp_form x)) (Ok None) =
+              subst (λ o. IsCmp (f x) (λ k. form_causes m r k i j (cmp_form x)) (Ok o)) w.in-None.is c.in_ok-cmp.ensures in
           record {
             within = within;
             causes = λ k h. inv.causes k (ap (any_cmp (form_causes m r k i j)) e ∙ or_right _ _ h);

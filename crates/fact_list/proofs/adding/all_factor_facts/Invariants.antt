@@ -4,4 +4,5 @@ use Rattle.fact_list.specs.Atoms.{different}
 use Rattle.fact_list.proofs.adding.all_factor_facts.Given as goal
 
 abbrev pub invariant-loop-i : goal.invariant-loop-i
-invariant-loop-i l = l.list ++ all_factor_facts l.facts l.factors (different (drop l.i l.factors)) ≡ l.fn.list ++ all_factor_facts l.facts l.factors (different l.factors)
+invariant-loop-i l = l.list ++ all_factor_facts l.facts l.factors (different (drop l.i l.factors)) ≡ l.fn.list
+    ++ all_factor_facts l.facts l.factors (different l.factors)

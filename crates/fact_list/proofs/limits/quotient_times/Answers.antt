@@ -15,5 +15,6 @@ single-requires c =
     let x = to_z-of_z w64 c.from.result wide ∙ c.from.ensures in
     let y = to_z-of_z w64 c.from-2.result wide-2 ∙ c.from-2.ensures in
     let a = c.in_ok-inside.ensures {u = tt} ∙ c.in_ok-copy_items.ensures {u = tt} in
-    let h = (λ k. is_normal (single (x k) (Div (a k) c.args.divisor) (y k))) ∙ quotient-times c.args.dividend.now c.args.divisor c.args.rest c.requires.normal c.requires.below in
+    let h = (λ k. is_normal (single (x k) (Div (a k) c.args.divisor) (y k)))
+        ∙ quotient-times c.args.dividend.now c.args.divisor c.args.rest c.requires.normal c.requires.below in
     h

@@ -8,7 +8,8 @@ pub loop-i-init : goal.loop-i-init
 loop-i-init c = record {
   within = omega arith;
   most = omega arith;
-  rest = followed-start c.args.facts.now c.args.goal.now c.in_ok-atoms.field-0 c.new.result c.in_ok-list.list c.append.new.self (c.in_ok-atoms.ensures {u = tt}) c.new.ensures (c.in_ok-list.ensures {u = tt})
+  rest = followed-start c.args.facts.now c.args.goal.now c.in_ok-atoms.field-0 c.new.result c.in_ok-list.list c.append.new.self (c.in_ok-atoms.ensures {u = tt})
+      c.new.ensures (c.in_ok-list.ensures {u = tt})
       (c.in_ok-append.ensures {u = tt});
 }
 
@@ -39,7 +40,8 @@ returns-clause-is c =
       | then-loop-i-test+else-len-lt-MOST w ↦ inr (omega (arith, w.if-len-lt-MOST.false, w.len-in-loop-i.ensures))
       | else-loop-i-test w ↦ inl (omega (arith, w.loop-i-test.false, c.len.ensures))
     ] in
-    c.shortened.ensures ∙ sym (followed-end c.args.facts.now list i c.loop-i.atoms c.loop-i.invariant.within c.loop-i.invariant.most done) ∙ c.loop-i.invariant.rest
+    c.shortened.ensures ∙ sym (followed-end c.args.facts.now list i c.loop-i.atoms c.loop-i.invariant.within c.loop-i.invariant.most done)
+        ∙ c.loop-i.invariant.rest
 
 pub returns-clause-few : goal.returns-clause-few
 returns-clause-few c = omega (arith, ap length c.shortened.ensures, take-few 2000 c.loop-i.list)

@@ -11,7 +11,8 @@ loop-low-preserved-then-stands_before c =
     record {
       ordered = omega arith;
       within = within;
-      before = before-more c.args.atom.now c.args.list.now middle c.index-list-middle.result (omega arith) c.index-list-middle.is c.requires (sym c.stands_before.ensures ∙ c.if-stands_before.true);
+      before = before-more c.args.atom.now c.args.list.now middle c.index-list-middle.result (omega arith) c.index-list-middle.is c.requires
+          (sym c.stands_before.ensures ∙ c.if-stands_before.true);
       after = c.loop-low.invariant.after;
     }
 
@@ -25,5 +26,6 @@ loop-low-preserved c =
       ordered = omega arith;
       within = omega arith;
       before = c.loop-low.invariant.before;
-      after = after-more c.args.atom.now c.args.list.now middle c.index-list-middle.result (omega arith) c.index-list-middle.is c.requires (sym c.stands_before.ensures ∙ c.if-stands_before.false);
+      after = after-more c.args.atom.now c.args.list.now middle c.index-list-middle.result (omega arith) c.index-list-middle.is c.requires
+          (sym c.stands_before.ensures ∙ c.if-stands_before.false);
     }

@@ -18,7 +18,8 @@ meet_atom-meet_atoms-requires t c =
 pub meet_atoms-loop-atom-preserved : goal.meet_atoms-loop-atom-preserved
 meet_atoms-loop-atom-preserved t c = record {
   normal = each-next NormalAtom c.args.atoms.now c.loop-atom.atom-index c.loop-atom-test.true c.loop-atom.invariant.normal;
-  rest = atoms-next c.args.facts.now c.loop-atom.more c.in_ok-more.more c.args.atoms.now c.loop-atom.atom-index c.atom-item.result c.loop-atom-test.true c.atom-item.is (c.in_ok-more.ensures {u = tt}) ∙ c.loop-atom.invariant.rest;
+  rest = atoms-next c.args.facts.now c.loop-atom.more c.in_ok-more.more c.args.atoms.now c.loop-atom.atom-index c.atom-item.result c.loop-atom-test.true
+      c.atom-item.is (c.in_ok-more.ensures {u = tt}) ∙ c.loop-atom.invariant.rest;
 }
 
 pub meet_items-meet_terms-requires : goal.meet_items-meet_terms-requires
@@ -28,5 +29,6 @@ meet_items-meet_terms-requires t c =
 pub meet_terms-loop-term-preserved : goal.meet_terms-loop-term-preserved
 meet_terms-loop-term-preserved t c = record {
   normal = each_term-next NormalAtom c.args.terms.now c.loop-term.term-index c.loop-term-test.true c.loop-term.invariant.normal;
-  rest = terms-next c.args.facts.now c.loop-term.more c.in_ok-more.more c.args.terms.now c.loop-term.term-index c.term-item.result c.loop-term-test.true c.term-item.is (c.in_ok-more.ensures {u = tt}) ∙ c.loop-term.invariant.rest;
+  rest = terms-next c.args.facts.now c.loop-term.more c.in_ok-more.more c.args.terms.now c.loop-term.term-index c.term-item.result c.loop-term-test.true
+      c.term-item.is (c.in_ok-more.ensures {u = tt}) ∙ c.loop-term.invariant.rest;
 }

@@ -52,5 +52,6 @@ returns c =
     record {
       within = omega (arith, ordered, within, keys-length c.args.facts.now c.args.places.now);
       before = c.loop-low.invariant.before;
-      after = subst (λ (n : ℕ). Each (AtMost (role_atom (wanted_role c.args.wanted))) (drop n (keys c.args.facts.now c.args.places.now))) is c.loop-low.invariant.after;
+      after = subst (λ (n : ℕ). Each (AtMost (role_atom (wanted_role c.args.wanted))) (drop n (keys c.args.facts.now c.args.places.now))) is
+          c.loop-low.invariant.after;
     }

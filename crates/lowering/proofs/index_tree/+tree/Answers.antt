@@ -9,10 +9,16 @@ use Rattle.lowering.proofs.TreeLaws.{fits-items, fits-Mul, rest_is, rest_fits}
 use Rattle.lowering.proofs.index_tree.+tree.Goals as goal
 
 pub form_tree-plus_terms-requires : goal.form_tree-plus_terms-requires
-form_tree-plus_terms-requires t c = (search (rules, the_lemmas), subst (λ ts. terms_fit ts ≡ true) (sym c.as_slice.ensures) (and_parts (number_fits c.args.form.now.constant) (terms_fit c.args.form.now.terms) (sym (fits-items c.args.form.now) ∙ c.requires)).1)
+form_tree-plus_terms-requires t c =
+    (search (rules, the_lemmas),
+    subst (λ ts. terms_fit ts ≡ true) (sym c.as_slice.ensures)
+    (and_parts (number_fits c.args.form.now.constant) (terms_fit c.args.form.now.terms) (sym (fits-items c.args.form.now) ∙ c.requires)).1)
 
 pub form_tree-minus_terms-requires : goal.form_tree-minus_terms-requires
-form_tree-minus_terms-requires t c = (search (rules, the_lemmas), subst (λ ts. terms_fit ts ≡ true) (sym c.as_slice-2.ensures) (and_parts (number_fits c.args.form.now.constant) (terms_fit c.args.form.now.terms) (sym (fits-items c.args.form.now) ∙ c.requires)).1)
+form_tree-minus_terms-requires t c =
+    (search (rules, the_lemmas),
+    subst (λ ts. terms_fit ts ≡ true) (sym c.as_slice-2.ensures)
+    (and_parts (number_fits c.args.form.now.constant) (terms_fit c.args.form.now.terms) (sym (fits-items c.args.form.now) ∙ c.requires)).1)
 
 pub joined_atom-joined_atoms-requires : goal.joined_atom-joined_atoms-requires
 joined_atom-joined_atoms-requires t c = (search (rules, the_lemmas), cc (fits-Mul c.in-Mul.factors))
@@ -20,7 +26,9 @@ joined_atom-joined_atoms-requires t c = (search (rules, the_lemmas), cc (fits-Mu
 pub plus_terms-plus_item-requires : goal.plus_terms-plus_item-requires
 plus_terms-plus_item-requires t c =
     let f : SFits w64 c.term-item.result.coefficient = search rules in
-    (search (rules, the_lemmas), rw (to_z-of_z w64 c.term-item.result.coefficient f) (rest_fits c.args.terms.now c.loop-term.term-index c.term-item.result c.term-item.is c.loop-term-test.true c.loop-term.invariant.fits).0)
+    (search (rules, the_lemmas),
+        rw (to_z-of_z w64 c.term-item.result.coefficient f)
+        (rest_fits c.args.terms.now c.loop-term.term-index c.term-item.result c.term-item.is c.loop-term-test.true c.loop-term.invariant.fits).0)
 
 pub plus_terms-loop-term-preserved : goal.plus_terms-loop-term-preserved
 plus_terms-loop-term-preserved t c =
@@ -29,7 +37,8 @@ plus_terms-loop-term-preserved t c =
     record {
       fits = (rest_fits c.args.terms.now c.loop-term.term-index c.term-item.result c.term-item.is c.loop-term-test.true c.loop-term.invariant.fits).1;
       rest =
-          ap (plus_terms c.args.loops (drop (c.loop-term.term-index + 1) c.args.terms.now)) (rw (to_z-of_z w64 c.term-item.result.coefficient f) at c.in_ok-sum.ensures)
+          ap (plus_terms c.args.loops (drop (c.loop-term.term-index + 1) c.args.terms.now))
+              (rw (to_z-of_z w64 c.term-item.result.coefficient f) at c.in_ok-sum.ensures)
           ∙ ap (λ us. plus_terms c.args.loops us c.loop-term.sum) (sym e)
           ∙ c.loop-term.invariant.rest;
     }
@@ -37,7 +46,9 @@ plus_terms-loop-term-preserved t c =
 pub minus_terms-minus_item-requires : goal.minus_terms-minus_item-requires
 minus_terms-minus_item-requires t c =
     let f : SFits w64 c.term-item.result.coefficient = search rules in
-    (search (rules, the_lemmas), rw (to_z-of_z w64 c.term-item.result.coefficient f) (rest_fits c.args.terms.now c.loop-term.term-index c.term-item.result c.term-item.is c.loop-term-test.true c.loop-term.invariant.fits).0)
+    (search (rules, the_lemmas),
+        rw (to_z-of_z w64 c.term-item.result.coefficient f)
+        (rest_fits c.args.terms.now c.loop-term.term-index c.term-item.result c.term-item.is c.loop-term-test.true c.loop-term.invariant.fits).0)
 
 pub minus_terms-loop-term-preserved : goal.minus_terms-loop-term-preserved
 minus_terms-loop-term-preserved t c =
@@ -46,7 +57,8 @@ minus_terms-loop-term-preserved t c =
     record {
       fits = (rest_fits c.args.terms.now c.loop-term.term-index c.term-item.result c.term-item.is c.loop-term-test.true c.loop-term.invariant.fits).1;
       rest =
-          ap (minus_terms c.args.loops (drop (c.loop-term.term-index + 1) c.args.terms.now)) (rw (to_z-of_z w64 c.term-item.result.coefficient f) at c.in_ok-tree.ensures)
+          ap (minus_terms c.args.loops (drop (c.loop-term.term-index + 1) c.args.terms.now))
+              (rw (to_z-of_z w64 c.term-item.result.coefficient f) at c.in_ok-tree.ensures)
           ∙ ap (λ us. minus_terms c.args.loops us c.loop-term.tree) (sym e)
           ∙ c.loop-term.invariant.rest;
     }

@@ -11,6 +11,7 @@ use Rattle.lowering.proofs.nest.word_leaf.Goals as goal
 pub returns : goal.returns
 returns c =
     let ns = c.args.extents.now in
-    let e = ap (λ w. Put (Output c.args.number) (index_tree c.args.loops (row_place ns (outer_variables c.args.loops c.args.loops))) w ∷ []) c.in_ok-word.ensures
+    let e = ap (λ w. Put (Output c.args.number) (index_tree c.args.loops (row_place ns (outer_variables c.args.loops c.args.loops))) w ∷ [])
+        c.in_ok-word.ensures
     ∙ sym (leaf-plain (word_loops c.args.term.now) (sites_from 0 c.args.inputs.now) c.args.number ns c.args.loops) in
     subst (λ l. IfOk c.leaf.result (λ b. b ≡ l)) e c.leaf.ensures

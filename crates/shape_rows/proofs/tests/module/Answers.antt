@@ -9,7 +9,8 @@ returns c =
     let outputs = c.push-2.new.self in
     let one_size = (c.in_ok-push.ensures {u = tt}).ok in
     let same = (c.in_ok-push-2.ensures {u = tt}).ok in (
-      one_size_scoped c.new.result sizes c.args.inputs outputs c.new.ensures (one_more c.new-sizes.result sizes _ one_size c.new-sizes.ensures) c.requires.inputs
+      one_size_scoped c.new.result sizes c.args.inputs outputs c.new.ensures (one_more c.new-sizes.result sizes _ one_size c.new-sizes.ensures)
+          c.requires.inputs
           (one_output 1 (length c.args.inputs) c.new-outputs.result outputs _ same c.new-outputs.ensures
           (ap (λ e. term_scoped 1 e 0 (length c.args.inputs)) c.into_inner.ensures ∙ c.requires.term)),
       refl,

@@ -16,7 +16,8 @@ walk_outputs-requires-clause-plain c = ap all_plain c.as_slice.ensures ∙ modul
 pub walk_outputs-requires-clause-free : goal.walk_outputs-requires-clause-free
 walk_outputs-requires-clause-free c =
     let shapes : c.in_ok-input_shapes.field-0 ≡ input_shapes c.args.module.now = search rules in
-    module_free c.args.module.now _ (inputs_in_scope c.args.module.now c.new.result c.new-2.result c.in_ok-input_shapes.field-0 c.new.ensures c.new-2.ensures shapes) c.requires.scoped
+    module_free c.args.module.now _
+        (inputs_in_scope c.args.module.now c.new.result c.new-2.result c.in_ok-input_shapes.field-0 c.new.ensures c.new-2.ensures shapes) c.requires.scoped
 
 pub returns-in_err-walk_outputs-clause-goals : goal.returns-in_err-walk_outputs-clause-goals
 returns-in_err-walk_outputs-clause-goals c =
@@ -26,7 +27,8 @@ returns-in_err-walk_outputs-clause-goals c =
     module_fault c.args.module.now _ c.in_err-walk_outputs.field-0.0
     (inputs_in_scope c.args.module.now c.new.result c.new-2.result c.in_ok-input_shapes.field-0 c.new.ensures c.new-2.ensures shapes)
     (subst (All RankFits) c.as_slice-inputs.ensures ranks)
-    (subst (λ (os : List OutputDecl). FailsFirst (scope (record { lets = c.new.result; inputs = c.in_ok-input_shapes.field-0 }) c.new-2.result) os c.in_err-walk_outputs.field-0.0) c.as_slice.ensures c.in_err-walk_outputs.ensures.fault) in
+    (subst (λ (os : List OutputDecl). FailsFirst (scope (record { lets = c.new.result; inputs = c.in_ok-input_shapes.field-0 }) c.new-2.result) os
+        c.in_err-walk_outputs.field-0.0) c.as_slice.ensures c.in_err-walk_outputs.ensures.fault) in
     search rules
 
 pub returns-clause-sound : goal.returns-clause-sound
@@ -37,7 +39,8 @@ returns-clause-sound c =
     let alone = inputs_in_scope m c.new.result c.new-2.result c.in_ok-input_shapes.field-0 c.new.ensures c.new-2.ensures shapes in
     let ranks : All RankFits c.as_slice-inputs.result.now = c.in_default.ensures in
     sound_by_goals m c.walk_outputs.new.progress.goals
-    (goals_are m c.in_ok-input_goals.field-0 c.walk_outputs.new.progress.goals _ c.as_slice-inputs.result.now c.as_slice.result.now told.goals (c.in_ok-input_goals.ensures {u = tt})
+    (goals_are m c.in_ok-input_goals.field-0 c.walk_outputs.new.progress.goals _ c.as_slice-inputs.result.now c.as_slice.result.now told.goals
+        (c.in_ok-input_goals.ensures {u = tt})
     c.as_slice-inputs.ensures c.as_slice.ensures alone)
     c.requires.scoped (shapes_hold m _ c.as_slice-inputs.result.now c.as_slice.result.now c.as_slice-inputs.ensures c.as_slice.ensures alone ranks told.shaped)
 

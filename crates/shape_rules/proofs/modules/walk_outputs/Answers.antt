@@ -14,7 +14,8 @@ returns-in-Err-clause-fault c =
       o,
       get_some c.args.outputs.now c.loop-i.i o c.loop-i-test.true c.index-outputs-i.is,
       c.loop-i.invariant.shaped,
-      subst (λ (bound : List Extents). IsFault c.loop-i.i (shape_of o.term (scope c.args.shapes.now bound)) c.in-Err.fault) c.loop-i.invariant.bound (c.in-Err.ensures {u = tt}).fault,
+      subst (λ (bound : List Extents). IsFault c.loop-i.i (shape_of o.term (scope c.args.shapes.now bound)) c.in-Err.fault) c.loop-i.invariant.bound
+          (c.in-Err.ensures {u = tt}).fault,
     )
 
 pub loop-i-preserved : goal.loop-i-preserved
@@ -25,9 +26,11 @@ loop-i-preserved c =
     record {
       bound = told.bound ∙ c.loop-i.invariant.bound;
       plain = plain_step c.args.outputs.now c.loop-i.i o c.loop-i-test.true c.index-outputs-i.is c.loop-i.invariant.plain;
-      goals = outputs_step c.args.outputs.now ts c.loop-i.i o c.loop-i.progress.goals c.walk_output.new.progress.goals (c.args.progress.now.goals ++ outputs_goals c.args.outputs.now ts)
+      goals = outputs_step c.args.outputs.now ts c.loop-i.i o c.loop-i.progress.goals c.walk_output.new.progress.goals
+          (c.args.progress.now.goals ++ outputs_goals c.args.outputs.now ts)
           c.loop-i-test.true c.index-outputs-i.is
-          (subst (λ (bound : List Extents). c.walk_output.new.progress.goals ≡ c.loop-i.progress.goals ++ term_goals o.term (scope c.args.shapes.now bound)) c.loop-i.invariant.bound told.goals)
+          (subst (λ (bound : List Extents). c.walk_output.new.progress.goals ≡ c.loop-i.progress.goals ++ term_goals o.term (scope c.args.shapes.now bound))
+              c.loop-i.invariant.bound told.goals)
           c.loop-i.invariant.goals;
       shaped = before_more (HasOne ts) c.args.outputs.now c.loop-i.i o c.loop-i-test.true c.index-outputs-i.is
           (subst (λ (bound : List Extents). HasOne (scope c.args.shapes.now bound) o) c.loop-i.invariant.bound told.shaped) c.loop-i.invariant.shaped;

@@ -9,6 +9,7 @@ abbrev pub invariant-loop-i : goal.invariant-loop-i
 invariant-loop-i l = record {
   bound : l.progress.bound ≡ l.initial.progress.bound;
   plain : all_plain (drop l.i l.outputs) ≡ true;
-  goals : l.progress.goals ++ outputs_goals (drop l.i l.outputs) (scope l.shapes l.initial.progress.bound) ≡ l.initial.progress.goals ++ outputs_goals l.outputs (scope l.shapes l.initial.progress.bound);
+  goals : l.progress.goals ++ outputs_goals (drop l.i l.outputs) (scope l.shapes l.initial.progress.bound) ≡ l.initial.progress.goals
+      ++ outputs_goals l.outputs (scope l.shapes l.initial.progress.bound);
   shaped : AllBefore (HasOne (scope l.shapes l.initial.progress.bound)) l.i l.outputs;
 }

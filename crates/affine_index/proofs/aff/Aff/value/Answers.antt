@@ -12,4 +12,5 @@ items_value-requires c =
     record { ready = normal-ready s v c.self.inside.items c.self.invariant (subst (λ (i : Items). items_scoped s v i ≡ true) (sym c.self.view_is) c.requires) }
 
 pub returns-clause-value : goal.returns-clause-value
-returns-clause-value c = value-is c.args.sizes.now c.args.vars.now c.args.self.now c.items_value.result (c.items_value.ensures ∙ ap (limited_value c.args.sizes.now c.args.vars.now) c.self.view_is)
+returns-clause-value c = value-is c.args.sizes.now c.args.vars.now c.args.self.now c.items_value.result
+    (c.items_value.ensures ∙ ap (limited_value c.args.sizes.now c.args.vars.now) c.self.view_is)
