@@ -20,7 +20,7 @@ use Rattle.region_plan.specs.Length.{length_tree, length_value}
 use Rattle.region_plan.specs.Syntax.{topped}
 use Rattle.index_trees.proofs.TreeLaws.{tree-items}
 use Rattle.final_rules.specs.Rules.{length_magnitude, length_normal}
-use Rattle.final_rules.proofs.NeedScoped.{length_scoped}
+use Rattle.final_rules.specs.Lengths.{over_sizes}
 use Rattle.affine_index.proofs.MagnitudeBounds.{form-most}
 use Rattle.affine_index.proofs.PrintedLaws.{prints_from}
 use Rattle.index_trees.proofs.TreeExact.{trees-exact, from_exact, each_exact}
@@ -36,11 +36,11 @@ module _ (s maxima : List ℕ) (ws : WithinMaxima s maxima) where
   none : WithinMaxima [] []
   none k l = absurd (omega (arith, l))
 
-  pub length-most : (l : Length) → length_scoped (length maxima) l ≡ true → unsigned_abs (length_value s l) ≤ length_magnitude maxima l
+  pub length-most : (l : Length) → over_sizes (length maxima) l ≡ true → unsigned_abs (length_value s l) ≤ length_magnitude maxima l
   length-most (Plain x) c = form-most s [] maxima [] ws none x c
   length-most (topped x a b) c =
-      let p = and_parts (items_scoped (length maxima) 0 x) (length_scoped (length maxima) a && length_scoped (length maxima) b) c in
-      let q = and_parts (length_scoped (length maxima) a) (length_scoped (length maxima) b) p.1 in
+      let p = and_parts (items_scoped (length maxima) 0 x) (over_sizes (length maxima) a && over_sizes (length maxima) b) c in
+      let q = and_parts (over_sizes (length maxima) a) (over_sizes (length maxima) b) p.1 in
       let g = greater (length_value s a) (length_value s b) in
       omega (
         arith,
@@ -53,14 +53,14 @@ module _ (s maxima : List ℕ) (ws : WithinMaxima s maxima) where
   room : 2 ^ 62 < 2 ^ 63
   room = omega arith
 
-  pub length-exact : (l : Length) → length_scoped (length maxima) l ≡ true → length_normal l ≡ true → length_magnitude maxima l ≤ 2 ^ 62
+  pub length-exact : (l : Length) → over_sizes (length maxima) l ≡ true → length_normal l ≡ true → length_magnitude maxima l ≤ 2 ^ 62
       → reckon (length_tree l) s [] ≡ Value (length_value s l)
   length-exact (Plain x) c n h =
       ap (λ t. reckon t s []) (sym (tree-items 0 x))
       ∙ trees-exact x (and_parts (is_ordered x) (coefficients_fit x && is_short x) n).0 s [] [] maxima [] (λ v l. absurd (omega (arith, l))) ws none refl c h
   length-exact (topped x a b) c n h =
-      let p = and_parts (items_scoped (length maxima) 0 x) (length_scoped (length maxima) a && length_scoped (length maxima) b) c in
-      let q = and_parts (length_scoped (length maxima) a) (length_scoped (length maxima) b) p.1 in
+      let p = and_parts (items_scoped (length maxima) 0 x) (over_sizes (length maxima) a && over_sizes (length maxima) b) c in
+      let q = and_parts (over_sizes (length maxima) a) (over_sizes (length maxima) b) p.1 in
       let m = and_parts (is_normal x) (length_normal a && length_normal b) n in
       let k = and_parts (length_normal a) (length_normal b) m.1 in
       let o = (and_parts (is_ordered x) (coefficients_fit x && is_short x) m.0).0 in

@@ -46,8 +46,9 @@ use Rattle.final_rules.proofs.PlaceValues.{Counts, length-value}
 use Rattle.loop_lang.specs.Reckoning.{Value}
 use Rattle.term_tree.specs.Meaning.{count_of}
 use Rattle.final_rules.proofs.LengthExact.{length-exact, length-most}
-use Rattle.final_rules.proofs.NeedScoped.{length_scoped, module-at}
-use Rattle.final_rules.proofs.PrintedScoped.{Scoping, SiteAt, All0, printed-at, length-at, shape-eon, every-append, literal-at}
+use Rattle.final_rules.specs.Lengths.{over_sizes}
+use Rattle.final_rules.proofs.NeedScoped.{module-at}
+use Rattle.final_rules.proofs.PrintedScoped.{Scoping, SiteAt, All0, extents-at, shapes-at, printed-at, length-at, shape-eon, every-append, literal-at}
 use Rattle.final_rules.proofs.ShapeGood.{Good, GoodShape, good-literal, shape-good, NoneBelow, Zeroth}
 use Rattle.final_rules.proofs.Walk.{Every, every_parts, ClaimHolds, PrintedHolds, Here, fits, numbered}
 
@@ -124,23 +125,15 @@ module _ (m : Module) (s : List ℕ) (a : Allowed m s) (sound : IsSound m) where
       let q = every_parts (Zeroth sizes s) d.extents (input_goals ds) h in
       ((good_extents d.extents p.0 q.0, good-literal sizes s 0), good_sites ds p.1 q.1)
 
-  extents-at : (ns : Extents) → extents_scoped sizes ns ≡ true → All0 sizes ns
-  extents-at [] c = tt
-  extents-at (n ∷ ns) c = let p = and_parts (items_scoped sizes 0 n) (extents_scoped sizes ns) c in (p.0, extents-at ns p.1)
-
   sites-at : (ds : List InputDecl) → inputs_scoped sizes ds ≡ true → Every (SiteAt sizes) (map input_site ds)
   sites-at [] c = tt
   sites-at (d ∷ ds) c = let p = and_parts (extents_scoped sizes d.extents) (inputs_scoped sizes ds) c in (
     (
-      extents-at d.extents p.0,
+      extents-at sizes d.extents p.0,
       literal-at sizes 0 (pos 0),
     ),
     sites-at ds p.1,
   )
-
-  shapes-at : (ds : List InputDecl) → inputs_scoped sizes ds ≡ true → Every (All0 sizes) (map (λ d. d.extents) ds)
-  shapes-at [] c = tt
-  shapes-at (d ∷ ds) c = let p = and_parts (extents_scoped sizes d.extents) (inputs_scoped sizes ds) c in (extents-at d.extents p.0, shapes-at ds p.1)
 
   -- the shapes of the sites of inputs
   shapes-are : (ds : List InputDecl) → map (λ x. x.extents) (map input_site ds) ≡ map (λ d. d.extents) ds
@@ -148,7 +141,7 @@ module _ (m : Module) (s : List ℕ) (a : Allowed m s) (sound : IsSound m) where
   shapes-are (d ∷ ds) = ap (λ xs. d.extents ∷ xs) (shapes-are ds)
 
   output_at : (o : OutputDecl) → term_scoped sizes o.term 0 (length m.inputs) ≡ true → All0 sizes (output_extents m o)
-  output_at o c = shape-eon sizes o.term 0 (length m.inputs) (input_shapes m) c (shapes-at m.inputs scoped_parts.1)
+  output_at o c = shape-eon sizes o.term 0 (length m.inputs) (input_shapes m) c (shapes-at sizes m.inputs scoped_parts.1)
 
   scoping : (o : OutputDecl) → term_scoped sizes o.term 0 (length m.inputs) ≡ true → Scoping sizes (output_place m o) 0
   scoping o c = record {
@@ -186,7 +179,7 @@ module _ (m : Module) (s : List ℕ) (a : Allowed m s) (sound : IsSound m) where
   inputs-at : (ds : List InputDecl) → inputs_scoped sizes ds ≡ true → Every InScope (map (λ d. length_printed d.extents nowhere_yet) ds)
   inputs-at [] c = tt
   inputs-at (d ∷ ds) c = let p = and_parts (extents_scoped sizes d.extents) (inputs_scoped sizes ds) c in (
-    words-at d.extents (extents-at d.extents p.0),
+    words-at d.extents (extents-at sizes d.extents p.0),
     inputs-at ds p.1,
   )
 
@@ -256,9 +249,9 @@ module _ (m : Module) (s : List ℕ) (a : Allowed m s) (sound : IsSound m) where
           let p = and_parts (length_normal l) (nat_le (length_magnitude (maxima m) l) largest_index) e in
           let le = small_le (length_magnitude (maxima m) l) largest_index p.1 in
           let ws = maxima-within m s a sound.scoped in
-          let at : length_scoped (length (maxima m)) l ≡ true = subst (λ (k : ℕ). length_scoped k l ≡ true)
+          let at : over_sizes (length (maxima m)) l ≡ true = subst (λ (k : ℕ). over_sizes k l ≡ true)
           (sym (length-map (λ d. at_least_one d.high) m.sizes))
-          (module-at sizes m l scoped_parts.2 (shapes-at m.inputs scoped_parts.1) q) in
+          (module-at sizes m l scoped_parts.2 (shapes-at sizes m.inputs scoped_parts.1) q) in
           let value : length_value s l ≡ pos (module_need m s) = needed_is m l sound q s a in
           let most : unsigned_abs (length_value s l) ≤ largest_index = omega (arith, length-most s (maxima m) ws l at, le) in
           (l, q, length-exact s (maxima m) ws l at p.0 le ∙ ap Value value, subst (λ z. unsigned_abs z ≤ largest_index) value most)

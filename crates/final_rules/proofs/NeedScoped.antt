@@ -20,14 +20,10 @@ use Rattle.term_tree.specs.Goals.{extents_or_none}
 use Rattle.term_tree.specs.Modules.{input_shapes, outputs_scoped}
 use Rattle.term_tree.specs.Scope.{cond_scoped, largest_tile, term_scoped}
 use Rattle.term_tree.specs.Shape.{Extents, shape_of}
+use Rattle.final_rules.specs.Lengths.{over_sizes}
 use Rattle.final_rules.proofs.PrintedScoped.{All0, At, length-at, literal-at, shape-eon, sum-at}
 use Rattle.final_rules.proofs.Raw.{words-raw}
 use Rattle.final_rules.proofs.Walk.{Every}
-
--- over so many sizes alone
-abbrev pub length_scoped : ℕ → Length → Bool
-length_scoped sizes (Plain x) = items_scoped sizes 0 x
-length_scoped sizes (topped x a b) = items_scoped sizes 0 x && (length_scoped sizes a && length_scoped sizes b)
 
 abbrev ok_length : Length → Limited Length
 ok_length l = Ok l
@@ -43,15 +39,15 @@ same_lengths k l h = cc
 
 module _ (sizes : ℕ) where
   abbrev pub LengthAt : Length → Type 0
-  LengthAt l = length_scoped sizes l ≡ true
+  LengthAt l = over_sizes sizes l ≡ true
 
   if-at : (b : Bool) (k l : Length) → LengthAt k → LengthAt l → LengthAt (if b then k else l)
   if-at true k l h g = h
   if-at false k l h g = g
 
   top-at : (x : Items) (k l : Length) → At sizes 0 x → LengthAt k → LengthAt l → LengthAt (topped x k l)
-  top-at x k l p h g = and_from (items_scoped sizes 0 x) (length_scoped sizes k && length_scoped sizes l) p (and_from (length_scoped sizes k)
-      (length_scoped sizes l) h g)
+  top-at x k l p h g = and_from (items_scoped sizes 0 x) (over_sizes sizes k && over_sizes sizes l) p (and_from (over_sizes sizes k)
+      (over_sizes sizes l) h g)
 
   larger-at : (k l : Length) → LengthAt k → LengthAt l → LengthAt (larger_of k l)
   larger-at k l h g =
@@ -65,8 +61,8 @@ module _ (sizes : ℕ) where
       subst LengthAt (same_length-is (Plain q.0) l q.2) (subst (At sizes 0) (limited_is (sum_of x y) q.0 q.1) (sum-at sizes 0 x y p h))
   longer-at x (topped y a b) l p h e =
       let q = first_ok (limited (sum_of x y)) (λ z. ok_length (topped z a b)) l e in
-      let g = and_parts (items_scoped sizes 0 y) (length_scoped sizes a && length_scoped sizes b) h in
-      let r = and_parts (length_scoped sizes a) (length_scoped sizes b) g.1 in
+      let g = and_parts (items_scoped sizes 0 y) (over_sizes sizes a && over_sizes sizes b) h in
+      let r = and_parts (over_sizes sizes a) (over_sizes sizes b) g.1 in
       subst LengthAt (same_length-is (topped q.0 a b) l q.2) (top-at q.0 a b (subst (At sizes 0) (limited_is (sum_of x y) q.0 q.1)
       (sum-at sizes 0 x y p g.0)) r.0 r.1)
 

@@ -23,6 +23,8 @@ use Rattle.fact_list.specs.Facts.{binders}
 use Rattle.term_tree.specs.declared.term.Term.{Term, Lit, TVar, WordOf}
 use Rattle.term_tree.specs.Syntax.{index, gen, sum, guard, let_in, add, sub, mul, concat, flatten, split, transpose, trunc_l, trunc_r, pad_l, pad_r}
 use Rattle.term_tree.specs.Goals.{extents_or_none}
+use Rattle.term_tree.specs.Modules.{extents_scoped, inputs_scoped}
+use Rattle.term_tree.specs.declared.term.InputDecl.{InputDecl}
 use Rattle.term_tree.specs.Scope.{cond_scoped, is_empty, largest_tile, term_scoped}
 use Rattle.term_tree.specs.Shape.{Extents, Shaped, here, each_fits, each_short, largest_rank, limited, of_concat, of_equal, of_first, of_two, of_words}
 use Rattle.term_tree.specs.Shape.{same_forms, shape_of, tiles, with_child}
@@ -117,6 +119,15 @@ module _ (sizes : ℕ) where
 
   abbrev pub All0 : Extents → Type 0
   All0 = Every (At 0)
+
+  -- declared extents, and the shapes of the inputs
+  pub extents-at : (ns : Extents) → extents_scoped sizes ns ≡ true → All0 ns
+  extents-at [] c = tt
+  extents-at (n ∷ ns) c = let p = and_parts (items_scoped sizes 0 n) (extents_scoped sizes ns) c in (p.0, extents-at ns p.1)
+
+  pub shapes-at : (ds : List InputDecl) → inputs_scoped sizes ds ≡ true → Every All0 (map (λ d. d.extents) ds)
+  shapes-at [] c = tt
+  shapes-at (d ∷ ds) c = let p = and_parts (extents_scoped sizes d.extents) (inputs_scoped sizes ds) c in (extents-at d.extents p.0, shapes-at ds p.1)
 
   abbrev Eon : Shaped → Type 0
   Eon r = All0 (extents_or_none r)
@@ -401,11 +412,11 @@ module _ (sizes : ℕ) where
 
   -- words
 
-  abbrev ReadAt : ℕ → Option Read → Type 0
+  abbrev pub ReadAt : ℕ → Option Read → Type 0
   ReadAt v None = Unit {0}
   ReadAt v (Some d) = Every (At v) d.indices
 
-  read-at : (e : Term) (xs : List Items) (v t : ℕ) → term_scoped sizes e v t ≡ true → Every (At v) xs → ReadAt v (read_under e xs)
+  pub read-at : (e : Term) (xs : List Items) (v t : ℕ) → term_scoped sizes e v t ≡ true → Every (At v) xs → ReadAt v (read_under e xs)
   read-at (TVar q) xs v t c h = h
   read-at (index e x) xs v t c h = let p = and_parts (term_scoped sizes e v t) (items_scoped sizes v x) c in read-at e (x ∷ xs) v t p.0 (p.1, h)
   read-at (Lit w) xs v t c h = tt
@@ -484,7 +495,7 @@ module _ (sizes : ℕ) where
   leaf-at : (e : Term) (p : Place) (v t : ℕ) → term_scoped sizes e v t ≡ true → Scoping p v → Every InScopeOf (leaf_printed e p)
   leaf-at e p v t h c = (store-at p v c, word-at e p v t h c)
 
-  shifted-at : (v : ℕ) (xs : List Items) → Every (At v) xs → Every (At (suc v)) (each_shifted xs ++ var_form 0 ∷ [])
+  pub shifted-at : (v : ℕ) (xs : List Items) → Every (At v) xs → Every (At (suc v)) (each_shifted xs ++ var_form 0 ∷ [])
   shifted-at v [] h = (var-scoped sizes (suc v) 0 (omega arith), tt)
   shifted-at v (x ∷ xs) h = (lifted-scoped sizes v x h.0, shifted-at v xs h.1)
 

@@ -1,5 +1,8 @@
 //! Why a module is not lowered.
 
+ghost use Rattle.std.specs.Prelude.{◌≡◌};
+
+use std::alloc::AllocError;
 use term_tree::Path;
 
 /// The first fault of the last version, or want of memory. Goals, final lines and printed indices count from 1.
@@ -22,4 +25,14 @@ pub enum FinalFault {
     /// A gen that is marked before in the list stands there, around it or inside it.
     NestedParallel(Path),
     Memory,
+}
+
+impl From<AllocError> for FinalFault {
+    ghost use Rattle.final_rules.specs.declared.fault.FinalFault.TheVariants.{Memory};
+
+    ghost from_gives = { λ _ e. e ≡ Memory };
+
+    fn from(_e: AllocError) -> FinalFault {
+        FinalFault::Memory
+    }
 }

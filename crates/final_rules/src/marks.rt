@@ -159,7 +159,8 @@ fn any_nested(path: &Path, before: &[Path]) -> bool
     false
 }
 
-fn copy(alloc: Global, path: &Path) -> Result<Path, AllocError>
+/// An equal path.
+pub fn copy(alloc: Global, path: &Path) -> Result<Path, AllocError>
     ensures { IfOk result (λ copy. copy ≡ path.now) }
 {
     let mut steps = Items::new(alloc);

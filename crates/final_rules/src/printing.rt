@@ -74,7 +74,7 @@ fn is_small(maxima: &[u64], vars: &[u64], form: &Aff) -> bool
 }
 
 /// An index that was taken form by form: a form that breaks a limit on the way counts as the index itself.
-fn measured(
+pub fn measured(
     maxima: &[u64],
     vars: &[u64],
     form: Result<Aff, AffRefusal>,
@@ -95,7 +95,7 @@ fn measured(
 }
 
 /// A form that is printed as it stands.
-fn plain(maxima: &[u64], vars: &[u64], form: &Aff, number: u64) -> Result<u64, Stop>
+pub fn plain(maxima: &[u64], vars: &[u64], form: &Aff, number: u64) -> Result<u64, Stop>
     requires { items_scoped (length maxima.now) (length vars.now) form.now ≡ true }
     ensures { Counts (next (form_small maxima.now vars.now (limited form.now)) number) result }
 {
@@ -113,7 +113,7 @@ fn comparison(maxima: &[u64], vars: &[u64], cmp: &Cmp, number: u64) -> Result<u6
 }
 
 /// Comparisons in order.
-fn compared(maxima: &[u64], vars: &[u64], cmps: &[Cmp], first: u64) -> Result<u64, Stop>
+pub fn compared(maxima: &[u64], vars: &[u64], cmps: &[Cmp], first: u64) -> Result<u64, Stop>
     requires { all_scoped (length maxima.now) (length vars.now) cmps.now ≡ true }
     ensures { Counts (compared maxima.now vars.now cmps.now first) result }
 {
@@ -165,7 +165,7 @@ fn behind(alloc: Global, offset: &Aff, extents: &[Aff], indices: &[Aff]) -> Resu
 }
 
 /// The place of indices in a tensor variable.
-fn sited(alloc: Global, scene: &Scene, var: u32, indices: &[Aff]) -> Result<Aff, AffRefusal>
+pub fn sited(alloc: Global, scene: &Scene, var: u32, indices: &[Aff]) -> Result<Aff, AffRefusal>
     requires there { var < length (given scene.now.shapes) }
     requires ready { extents_ready (get_or (given scene.now.shapes) var []) ≡ true }
     ensures { Answers (sited scene.now var indices.now) result }
