@@ -1,0 +1,5 @@
+pub mod Begins
+pub mod NumberLaws
+pub mod GivenLaws
+pub mod GivenBegins
+pub mod WholeLaws

@@ -1,0 +1,4 @@
+pub mod Given
+pub mod Reading
+pub mod Answer
+pub mod Line
