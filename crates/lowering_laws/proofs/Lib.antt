@@ -1,0 +1,15 @@
+pub mod Goods
+pub mod Joined
+pub mod NestLaws
+pub mod Outputs
+pub mod PrintedBack
+pub mod Reshaped
+pub mod Right
+pub mod Rows
+pub mod Scattered
+pub mod StoredReads
+pub mod Transposed
+pub mod TreeFormed
+pub mod TreeForms
+pub mod Whole
+pub mod Words
