@@ -1,5 +1,6 @@
 -- Changes of places that keep two tuples apart.
-use Rattle.std.proofs.Common.{◌≡◌, ℕ, ◌+◌, ◌-◌, ◌*◌, ◌/◌, ◌%◌, ◌<◌, ◌≤◌, if◌then◌else◌, List, [], ◌∷◌, get_or, Option, Some, None, refl, sym, ap, ◌∙◌, subst, ⊎_elim, arith}
+use Rattle.std.proofs.Common.{◌≡◌, ℕ, ◌+◌, ◌-◌, ◌*◌, ◌/◌, ◌%◌, ◌<◌, ◌≤◌, if◌then◌else◌, List, [], ◌∷◌, get_or, Option, Some, None, refl, sym, ap, ◌∙◌, subst}
+use Rattle.std.proofs.Common.{⊎_elim, arith}
 use Rattle.std.proofs.lemmas.Bool.{lt-ltb, le-ltb, cases_lt}
 use Rattle.std.proofs.lemmas.Nat.{mul-add-lt, same_from_place, div-add-mod'}
 use Rattle.std.proofs.Math.Nat.{mod-lt, mul_comm, mul-le-mul_right}
@@ -14,7 +15,9 @@ abbrev pub chunks : ℕ → ℕ → ℕ
 chunks n k = (n + k - 1) / k
 
 -- a place that no tuple of the first part has
-pub clear_through : (o : Mode) (ds cs : List ℕ) (f g : List ℕ → Option ℕ) (ws vs : List ℕ) → ((ix : List ℕ) (p : ℕ) → Within cs ix → g ix ≡ Some p → (jx : List ℕ) × Within ds jx × (f jx ≡ Some p) × (get_or vs p 0 ≡ get_or ws p 0)) → Clear o ds f ws → Clear o cs g vs
+pub clear_through : (o : Mode) (ds cs : List ℕ) (f g : List ℕ → Option ℕ) (ws vs : List ℕ)
+    → ((ix : List ℕ) (p : ℕ) → Within cs ix → g ix ≡ Some p → (jx : List ℕ) × Within ds jx × (f jx ≡ Some p) × (get_or vs p 0 ≡ get_or ws p 0))
+    → Clear o ds f ws → Clear o cs g vs
 clear_through Adds ds cs f g ws vs h c = tt
 clear_through Puts ds cs f g ws vs h c = λ ix p w e. let a = h ix p w e in a.3 ∙ c a.0 p a.1 a.2
 
@@ -22,7 +25,8 @@ pub widen : (n m : ℕ) (ds ix : List ℕ) → Within (n ∷ ds) ix → Within (
 widen n m ds [] w = w
 widen n m ds (i ∷ ix) w = (omega (arith, w.0), w.1)
 
-pub shift_in : (n m : ℕ) (ds ix : List ℕ) (p : ℕ) (f : List ℕ → Option ℕ) → Within (m ∷ ds) ix → shifted n f ix ≡ Some p → (i : ℕ) × (jx : List ℕ) × (ix ≡ i ∷ jx) × Within ((n + m) ∷ ds) ((n + i) ∷ jx) × (f ((n + i) ∷ jx) ≡ Some p)
+pub shift_in : (n m : ℕ) (ds ix : List ℕ) (p : ℕ) (f : List ℕ → Option ℕ) → Within (m ∷ ds) ix → shifted n f ix ≡ Some p
+    → (i : ℕ) × (jx : List ℕ) × (ix ≡ i ∷ jx) × Within ((n + m) ∷ ds) ((n + i) ∷ jx) × (f ((n + i) ∷ jx) ≡ Some p)
 shift_in n m ds [] p f w e = absurd w
 shift_in n m ds (i ∷ ix) p f w e = (i, ix, refl, (omega (arith, w.0), w.1), e)
 
@@ -36,14 +40,16 @@ shifted_inj n m ds f inj (i ∷ ix) (j ∷ jx) p w v a b =
     let tails : ix ≡ jx = cc in
     cc
 
-pub apart_rows : (n m : ℕ) (ds : List ℕ) (f : List ℕ → Option ℕ) (i p : ℕ) (ix jx : List ℕ) → Injective ((n + m) ∷ ds) f → Within ((n + m) ∷ ds) ((n + i) ∷ ix) → f ((n + i) ∷ ix) ≡ Some p → Within (n ∷ ds) jx → f jx ≡ Some p → ⊥
+pub apart_rows : (n m : ℕ) (ds : List ℕ) (f : List ℕ → Option ℕ) (i p : ℕ) (ix jx : List ℕ) → Injective ((n + m) ∷ ds) f → Within ((n + m) ∷ ds) ((n + i) ∷ ix)
+    → f ((n + i) ∷ ix) ≡ Some p → Within (n ∷ ds) jx → f jx ≡ Some p → ⊥
 apart_rows n m ds f i p ix [] inj w e v c = absurd v
 apart_rows n m ds f i p ix (j ∷ jx) inj w e v c =
     let same : (n + i) ∷ ix ≡ j ∷ jx = inj ((n + i) ∷ ix) (j ∷ jx) p w (omega (arith, v.0), v.1) e c in
     let heads : n + i ≡ j = cc in
     absurd (omega (arith, v.0))
 
-pub kept_in : (m n : ℕ) (ds : List ℕ) (f : List ℕ → Option ℕ) (ix : List ℕ) (p : ℕ) → Within (n ∷ ds) ix → kept m f ix ≡ Some p → Within (m ∷ ds) ix × (f ix ≡ Some p)
+pub kept_in : (m n : ℕ) (ds : List ℕ) (f : List ℕ → Option ℕ) (ix : List ℕ) (p : ℕ) → Within (n ∷ ds) ix → kept m f ix ≡ Some p
+    → Within (m ∷ ds) ix × (f ix ≡ Some p)
 kept_in m n ds f [] p w e = absurd w
 kept_in m n ds f (i ∷ ix) p w e =
     ⊎_elim
@@ -51,7 +57,8 @@ kept_in m n ds f (i ∷ ix) p w e =
     (λ (l : m ≤ i). let no : None ≡ Some p = ap (λ b. if b then f (i ∷ ix) else None) (sym (le-ltb i m l)) ∙ e in cc)
     (cases_lt i m)
 
-pub swapped_in : (n m : ℕ) (ds : List ℕ) (f : List ℕ → Option ℕ) (ix : List ℕ) (p : ℕ) → Within (n ∷ m ∷ ds) ix → swapped f ix ≡ Some p → (x : ℕ) × (y : ℕ) × (jx : List ℕ) × (ix ≡ x ∷ y ∷ jx) × Within (m ∷ n ∷ ds) (y ∷ x ∷ jx) × (f (y ∷ x ∷ jx) ≡ Some p)
+pub swapped_in : (n m : ℕ) (ds : List ℕ) (f : List ℕ → Option ℕ) (ix : List ℕ) (p : ℕ) → Within (n ∷ m ∷ ds) ix → swapped f ix ≡ Some p
+    → (x : ℕ) × (y : ℕ) × (jx : List ℕ) × (ix ≡ x ∷ y ∷ jx) × Within (m ∷ n ∷ ds) (y ∷ x ∷ jx) × (f (y ∷ x ∷ jx) ≡ Some p)
 swapped_in n m ds f [] p w e = absurd w
 swapped_in n m ds f (x ∷ []) p w e = absurd w.1
 swapped_in n m ds f (x ∷ y ∷ jx) p w e = (x, y, jx, refl, (w.1.0, (w.0, w.1.1)), e)
@@ -95,7 +102,8 @@ good_wide n a ds f = record {
   apart = λ inj ix jx p w v a' c. inj ix jx p (widen n a ds ix w) (widen n a ds jx v) a' c;
 }
 
-pub dropped_in : (a n : ℕ) (ds : List ℕ) (f : List ℕ → Option ℕ) (ix : List ℕ) (p : ℕ) → Within (n ∷ ds) ix → dropped a f ix ≡ Some p → (i : ℕ) × (jx : List ℕ) × (ix ≡ i ∷ jx) × (a ≤ i) × Within ((n - a) ∷ ds) ((i - a) ∷ jx) × (f ((i - a) ∷ jx) ≡ Some p)
+pub dropped_in : (a n : ℕ) (ds : List ℕ) (f : List ℕ → Option ℕ) (ix : List ℕ) (p : ℕ) → Within (n ∷ ds) ix → dropped a f ix ≡ Some p
+    → (i : ℕ) × (jx : List ℕ) × (ix ≡ i ∷ jx) × (a ≤ i) × Within ((n - a) ∷ ds) ((i - a) ∷ jx) × (f ((i - a) ∷ jx) ≡ Some p)
 dropped_in a n ds f [] p w e = absurd w
 dropped_in a n ds f (i ∷ ix) p w e =
     ⊎_elim
@@ -116,7 +124,8 @@ good_dropped a n ds f = record {
       i.2 ∙ ap (λ x. x ∷ i.1) e ∙ ap (λ xs. j.0 ∷ xs) tails ∙ sym j.2;
 }
 
-pub flat_in : (n m : ℕ) (ds : List ℕ) (f : List ℕ → Option ℕ) (ix : List ℕ) (p : ℕ) → Within (n ∷ m ∷ ds) ix → flattened m f ix ≡ Some p → (x : ℕ) × (y : ℕ) × (jx : List ℕ) × (ix ≡ x ∷ y ∷ jx) × (y < m) × Within ((n * m) ∷ ds) ((x * m + y) ∷ jx) × (f ((x * m + y) ∷ jx) ≡ Some p)
+pub flat_in : (n m : ℕ) (ds : List ℕ) (f : List ℕ → Option ℕ) (ix : List ℕ) (p : ℕ) → Within (n ∷ m ∷ ds) ix → flattened m f ix ≡ Some p
+    → (x : ℕ) × (y : ℕ) × (jx : List ℕ) × (ix ≡ x ∷ y ∷ jx) × (y < m) × Within ((n * m) ∷ ds) ((x * m + y) ∷ jx) × (f ((x * m + y) ∷ jx) ≡ Some p)
 flat_in n m ds f [] p w e = absurd w
 flat_in n m ds f (x ∷ []) p w e = absurd w.1
 flat_in n m ds f (x ∷ y ∷ jx) p w e = (x, y, jx, refl, w.1.0, (subst (λ v. x * m + y < v) (mul_comm m n) (mul-add-lt x m y n w.0 w.1.0), w.1.1), e)
@@ -149,7 +158,8 @@ chunk_of n k i h l =
     (λ (g : chunks n k ≤ i / k). let less : chunks n k * k ≤ i / k * k = mul-le-mul_right k g in absurd (omega arith))
     (cases_lt (i / k) (chunks n k))
 
-pub spread_in : (n k : ℕ) (ds : List ℕ) (f : List ℕ → Option ℕ) (ix : List ℕ) (p : ℕ) → 0 < k → Within (n ∷ ds) ix → spread k f ix ≡ Some p → (i : ℕ) × (jx : List ℕ) × (ix ≡ i ∷ jx) × Within (chunks n k ∷ k ∷ ds) ((i / k) ∷ (i % k) ∷ jx) × (f ((i / k) ∷ (i % k) ∷ jx) ≡ Some p)
+pub spread_in : (n k : ℕ) (ds : List ℕ) (f : List ℕ → Option ℕ) (ix : List ℕ) (p : ℕ) → 0 < k → Within (n ∷ ds) ix → spread k f ix ≡ Some p
+    → (i : ℕ) × (jx : List ℕ) × (ix ≡ i ∷ jx) × Within (chunks n k ∷ k ∷ ds) ((i / k) ∷ (i % k) ∷ jx) × (f ((i / k) ∷ (i % k) ∷ jx) ≡ Some p)
 spread_in n k ds f [] p h w e = absurd w
 spread_in n k ds f (i ∷ ix) p h w e = (i, ix, refl, (chunk_of n k i h w.0, (mod-lt i h, w.1)), e)
 
@@ -159,7 +169,8 @@ good_spread n k ds f h = record {
   apart = λ inj ix jx p w v b c.
       let i = spread_in n k ds f ix p h w b in
       let j = spread_in n k ds f jx p h v c in
-      let same : (i.0 / k) ∷ (i.0 % k) ∷ i.1 ≡ (j.0 / k) ∷ (j.0 % k) ∷ j.1 = inj ((i.0 / k) ∷ (i.0 % k) ∷ i.1) ((j.0 / k) ∷ (j.0 % k) ∷ j.1) p i.3 j.3 i.4 j.4 in
+      let same : (i.0 / k) ∷ (i.0 % k) ∷ i.1 ≡ (j.0 / k) ∷ (j.0 % k) ∷ j.1 = inj ((i.0 / k) ∷ (i.0 % k) ∷ i.1)
+      ((j.0 / k) ∷ (j.0 % k) ∷ j.1) p i.3 j.3 i.4 j.4 in
       let q : i.0 / k ≡ j.0 / k = cc in
       let u : i.0 % k ≡ j.0 % k = cc in
       let e : i.0 ≡ j.0 = sym (div-add-mod' i.0 k) ∙ ap (λ v. v * k + i.0 % k) q ∙ ap (λ v. j.0 / k * k + v) u ∙ div-add-mod' j.0 k in

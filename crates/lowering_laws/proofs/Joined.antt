@@ -1,18 +1,17 @@
 -- From what the loops of a module are owed to a run of its program.
-use Rattle.std.proofs.Common.{◌≡◌, ℕ, zero, suc, ◌+◌, ◌^◌, ◌<◌, ◌≤◌, Bool, true, false, List, [], ◌∷◌, ◌++◌, length, map, get_or, pos, refl, sym, ap, ◌∙◌, subst, arith}
-use Rattle.std.specs.Prelude.{All, Ok}
+use Rattle.std.proofs.Common.{◌≡◌, ℕ, zero, suc, ◌+◌, ◌<◌, ◌≤◌, Bool, true, false, List, [], ◌∷◌, ◌++◌, length, map, get_or, pos, refl, sym, ap, ◌∙◌}
+use Rattle.std.proofs.Common.{subst, arith}
+use Rattle.std.specs.Prelude.{All}
 use Rattle.std.proofs.lemmas.List.{append_assoc, length-map, map-append}
-use Rattle.affine_index.specs.declared.form.Items.{Items}
 use Rattle.term_tree.specs.declared.term.InputDecl.{InputDecl}
 use Rattle.term_tree.specs.declared.term.OutputDecl.{OutputDecl}
 use Rattle.term_tree.specs.declared.term.Module.{Module}
 use Rattle.term_tree.specs.declared.term.Path.{Path}
-use Rattle.term_tree.specs.declared.term.Term.{Term}
 use Rattle.term_tree.specs.Tensors.{Tensor}
-use Rattle.term_tree.specs.Meaning.{count_of, den, dims, extent, extents_of}
+use Rattle.term_tree.specs.Meaning.{count_of, den, dims, extents_of}
 use Rattle.term_tree.specs.Shape.{Extents}
 use Rattle.term_tree.specs.Shaped.{flat, word_count}
-use Rattle.term_tree.specs.Modules.{Allowed, AreInputs, IsSound, extents_at, input_shapes, inputs_bound, module_den}
+use Rattle.term_tree.specs.Modules.{Allowed, AreInputs, extents_at, input_shapes, inputs_bound, module_den}
 use Rattle.linear_cert.specs.declared.lines.FinalLine.{FinalLine}
 use Rattle.shape_rules.specs.Fits.{LiteralsFit, ShapesFit}
 use Rattle.shape_rules.specs.Meant.{HasMeaning, input_extents}
@@ -21,21 +20,21 @@ use Rattle.shape_rules.specs.Values.{AllHaveValues, HaveValues}
 use Rattle.shape_rules.proofs.ModuleLaws.{bound_extents, sound_shapes}
 use Rattle.loop_lang.specs.declared.index.Iexp.{Iexp}
 use Rattle.loop_lang.specs.Reckoning.{Value, reckon}
-use Rattle.loop_lang.specs.Memory.{Memory, Ends, apply}
-use Rattle.loop_lang.specs.Run.{IsMemoryOf, length_of, lengths_at}
+use Rattle.loop_lang.specs.Memory.{Memory, apply}
+use Rattle.loop_lang.specs.Run.{IsMemoryOf, length_of}
 use Rattle.loop_lang.proofs.Statements.{acts-seq}
-use Rattle.region_plan.specs.Need.{module_need}
 use Rattle.region_plan.specs.Length.{length_tree}
-use Rattle.region_plan.specs.Needed.{module_needed}
 use Rattle.region_plan.proofs.NeedLaws.{shape_values}
 use Rattle.final_rules.specs.Accepted.{InputsFit, IsLowerable, OutputsFit, ScratchFits, StaysWithin}
 use Rattle.final_rules.specs.Printed.{largest_index}
 use Rattle.final_rules.specs.Rules.{any_let, output_extents, output_place}
 use Rattle.final_rules.proofs.Main.{accepted-stays-within}
 use Rattle.lowering.proofs.Does.{region}
-use Rattle.lowering_laws.specs.Correct.{Computed, HasLengths, IsCorrect, IsOwed, LengthsAreRight, OutputsOwe, OutputsRoom, OutputsShapesFit, region_words, scratch_counts, word_counts}
+use Rattle.lowering_laws.specs.Correct.{Computed, HasLengths, IsCorrect, IsOwed, LengthsAreRight, LoopsAreRight, OutputsOwe, OutputsRoom, OutputsShapesFit}
+use Rattle.lowering_laws.specs.Correct.{region_words, scratch_counts, word_counts}
 use Rattle.lowering_laws.specs.Lowered.{outputs_loops, program_of, region_length, scratch_lengths, scratch_many, words_tree}
 use Rattle.lowering_laws.specs.Owes.{Owes, Room}
+use Rattle.lowering_laws.proofs.Accepting.{accepted_is_owed}
 use Rattle.lowering_laws.proofs.Outputs.{AllReady, Prepared, Runs, delivered_at, outputs_run}
 
 rest_all : {X : Type 0} (P : X → Type 0) (x : X) (xs : List X) → All P (x ∷ xs) → All P xs
@@ -81,7 +80,8 @@ computed_lengths s [] (n ∷ ns) h = absurd h
 computed_lengths s (x ∷ xs) [] h = absurd h
 computed_lengths s (x ∷ xs) (n ∷ ns) h = λ i. length_of (h.0.0 i) ∷ computed_lengths s xs ns h.1 i
 
-inputs_computed : (s : List ℕ) (ds : List InputDecl) → InputsFit s ds → Computed s (map (λ d. words_tree d.extents) ds) (map word_count (map (λ d. extents_at d.extents s) ds))
+inputs_computed : (s : List ℕ) (ds : List InputDecl) → InputsFit s ds
+    → Computed s (map (λ d. words_tree d.extents) ds) (map word_count (map (λ d. extents_at d.extents s) ds))
 inputs_computed s [] h = tt
 inputs_computed s (d ∷ ds) h = (h.0, inputs_computed s ds h.1)
 
@@ -96,10 +96,12 @@ values_at s [] (d ∷ ds) h = absurd h
 values_at s (n ∷ ns) [] h = absurd h
 values_at s (n ∷ ns) (d ∷ ds) h = λ i. count_of (h.0 i) ∷ values_at s ns ds h.1 i
 
-extents_are : (m : Module) (s : List ℕ) (os : List OutputDecl) → AllHaveValues s (input_shapes m) (input_extents m s) → All (λ o. EachPart (HasMeaning s) o.term (input_shapes m)) os → ExtentsAre m s os
+extents_are : (m : Module) (s : List ℕ) (os : List OutputDecl) → AllHaveValues s (input_shapes m) (input_extents m s)
+    → All (λ o. EachPart (HasMeaning s) o.term (input_shapes m)) os → ExtentsAre m s os
 extents_are m s [] v h = tt
 extents_are m s (o ∷ os) v h = (
-  values_at s (output_extents m o) (dims o.term s (input_extents m s)) (shape_values s o.term (input_shapes m) (input_extents m s) (first_all (λ (o : OutputDecl). EachPart (HasMeaning s) o.term (input_shapes m)) o os h) v),
+  values_at s (output_extents m o) (dims o.term s (input_extents m s))
+      (shape_values s o.term (input_shapes m) (input_extents m s) (first_all (λ (o : OutputDecl). EachPart (HasMeaning s) o.term (input_shapes m)) o os h) v),
   extents_are m s os v (rest_all (λ (o : OutputDecl). EachPart (HasMeaning s) o.term (input_shapes m)) o os h),
 )
 
@@ -124,14 +126,25 @@ ReadyAt m s ds (o ∷ os) =
     × (extents_at (output_extents m o) s ≡ dims o.term s ds) × Owes s o.term (output_place m o) [] [] ds × ShapesFit o.term s ds × LiteralsFit o.term
     × Room s (scratch_many (any_let m.outputs)) (region_words m s (any_let m.outputs)) o.term ds 0 × ReadyAt m s ds os
 
-ready_here : (m : Module) (s : List ℕ) (os : List OutputDecl) → OutputsFit m s os → ExtentsAre m s os → OutputsOwe m s os → OutputsShapesFit m s os → All (λ o. LiteralsFit o.term) os
+ready_here : (m : Module) (s : List ℕ) (os : List OutputDecl) → OutputsFit m s os → ExtentsAre m s os → OutputsOwe m s os → OutputsShapesFit m s os
+    → All (λ o. LiteralsFit o.term) os
     → OutputsRoom m s os → ReadyAt m s (input_extents m s) os
 ready_here m s [] f e o h l r = tt
 ready_here m s (x ∷ xs) f e o h l r =
-    let c = subst (λ ds. (reckon (words_tree (output_extents m x)) s [] ≡ Value (pos (word_count ds))) × (word_count ds ≤ largest_index)) e.0 f.0 in
-    (c.0, c.1, e.0, o.0, h.0, first_all (λ (o : OutputDecl). LiteralsFit o.term) x xs l, r.0, ready_here m s xs f.2 e.1 o.1 h.1 (rest_all (λ (o : OutputDecl). LiteralsFit o.term) x xs l) r.1)
+    let c = subst (λ ds. (reckon (words_tree (output_extents m x)) s [] ≡ Value (pos (word_count ds))) × (word_count ds ≤ largest_index)) e.0 f.0 in (
+      c.0,
+      c.1,
+      e.0,
+      o.0,
+      h.0,
+      first_all (λ (o : OutputDecl). LiteralsFit o.term) x xs l,
+      r.0,
+      ready_here m s xs f.2 e.1 o.1 h.1
+          (rest_all (λ (o : OutputDecl). LiteralsFit o.term) x xs l) r.1,
+    )
 
-all_ready : (m : Module) (marks : List Path) (s : List ℕ) (ts : List Tensor) (are : AreInputs m.inputs s ts) (os : List OutputDecl) (j : ℕ) → ReadyAt m s (extents_of (inputs_bound m.inputs s ts)) os
+all_ready : (m : Module) (marks : List Path) (s : List ℕ) (ts : List Tensor) (are : AreInputs m.inputs s ts) (os : List OutputDecl) (j : ℕ)
+    → ReadyAt m s (extents_of (inputs_bound m.inputs s ts)) os
     → AllReady m marks s (scratch_many (any_let m.outputs)) (region_words m s (any_let m.outputs)) ts are os j
 all_ready m marks s ts are [] j h = tt
 all_ready m marks s ts are (o ∷ os) j h = (
@@ -140,8 +153,10 @@ all_ready m marks s ts are (o ∷ os) j h = (
 )
 
 -- buffers of those lengths
-prepared_at : (m : Module) (marks : List Path) (s : List ℕ) (many len : ℕ) (ts : List Tensor) (are : AreInputs m.inputs s ts) (os : List OutputDecl) (j : ℕ) (n : Memory) → length n.outputs ≡ j + length os
-    → ((i : ℕ) → i < length os → length (get_or n.outputs (j + i) []) ≡ get_or (map (λ o. word_count (dims o.term s (extents_of (inputs_bound m.inputs s ts)))) os) i 0)
+prepared_at : (m : Module) (marks : List Path) (s : List ℕ) (many len : ℕ) (ts : List Tensor) (are : AreInputs m.inputs s ts) (os : List OutputDecl) (j : ℕ)
+    (n : Memory) → length n.outputs ≡ j + length os
+    → ((i : ℕ) → i < length os → length (get_or n.outputs (j + i) []) ≡ get_or
+    (map (λ o. word_count (dims o.term s (extents_of (inputs_bound m.inputs s ts)))) os) i 0)
     → Prepared m marks s many len ts are os j n
 prepared_at m marks s many len ts are [] j n e h = tt
 prepared_at m marks s many len ts are (o ∷ os) j n e h =
@@ -168,8 +183,10 @@ module _ (m : Module) (finals : List FinalLine) (marks : List Path) (low : IsLow
   has_lengths s a =
       let w = within s a in
       computed_append s (map (λ d. words_tree d.extents) m.inputs) _ (map word_count (input_extents m s)) _ (inputs_computed s m.inputs w.inputs)
-      (computed_append s (map (λ o. words_tree (output_extents m o)) m.outputs) (scratch_lengths m (any_let m.outputs)) (map (λ o. word_count (dims o.term s (input_extents m s))) m.outputs)
-      (scratch_counts m s (any_let m.outputs)) (outputs_computed m s m.outputs w.outputs (outputs_extents s a)) (scratch_computed m s (any_let m.outputs) w.scratch))
+      (computed_append s (map (λ o. words_tree (output_extents m o)) m.outputs) (scratch_lengths m (any_let m.outputs))
+      (map (λ o. word_count (dims o.term s (input_extents m s))) m.outputs)
+      (scratch_counts m s (any_let m.outputs)) (outputs_computed m s m.outputs w.outputs (outputs_extents s a))
+      (scratch_computed m s (any_let m.outputs) w.scratch))
 
   record Sized (s : List ℕ) (n : Memory) : Type 0 where
     outputs : map length n.outputs ≡ map (λ o. word_count (dims o.term s (input_extents m s))) m.outputs
@@ -187,7 +204,8 @@ module _ (m : Module) (finals : List FinalLine) (marks : List Path) (low : IsLow
       let e : length (map length n.inputs) ≡ length ins =
       length-map n.inputs length ∙ mem.inputs ∙ sym (length-map (input_extents m s) word_count ∙ length-map m.inputs (λ d. extents_at d.extents s)) in
       let rest = (two_parts (map length n.inputs) ins (map length n.outputs ++ map length n.scratch) (outs ++ sc) e all).1 in
-      let f : length (map length n.outputs) ≡ length outs = length-map n.outputs length ∙ mem.outputs ∙ sym (length-map m.outputs (λ o. word_count (dims o.term s (input_extents m s)))) in
+      let f : length (map length n.outputs) ≡ length outs = length-map n.outputs length ∙ mem.outputs
+      ∙ sym (length-map m.outputs (λ o. word_count (dims o.term s (input_extents m s)))) in
       let p = two_parts (map length n.outputs) outs (map length n.scratch) sc f rest in
       record { outputs = p.0; scratch = p.1 }
 
@@ -199,8 +217,10 @@ module _ (m : Module) (finals : List FinalLine) (marks : List Path) (low : IsLow
         runs = ap (λ l. apply l n) (acts-seq (outputs_loops m marks m.outputs 0) s []) ∙ r.runs;
         outputs =
             same_list [] r.after.outputs (map flat (module_den m s ts))
-            (r.many_outputs ∙ mem.outputs ∙ sym (length-map (module_den m s ts) flat ∙ length-map m.outputs (λ o. den o.term s [] (inputs_bound m.inputs s ts))))
-            (λ i l. let z : i ≡ 0 + i = omega arith in ap (λ k. get_or r.after.outputs k []) z ∙ delivered_at m marks s many len ts are m.outputs 0 i r.after r.delivered (omega (arith, l, r.many_outputs, mem.outputs)));
+            (r.many_outputs ∙ mem.outputs ∙ sym (length-map (module_den m s ts) flat
+            ∙ length-map m.outputs (λ o. den o.term s [] (inputs_bound m.inputs s ts))))
+            (λ i l. let z : i ≡ 0 + i = omega arith in ap (λ k. get_or r.after.outputs k []) z
+            ∙ delivered_at m marks s many len ts are m.outputs 0 i r.after r.delivered (omega (arith, l, r.many_outputs, mem.outputs)));
         inputs_kept = r.inputs;
       }
     where
@@ -223,7 +243,8 @@ module _ (m : Module) (finals : List FinalLine) (marks : List Path) (low : IsLow
       w = within s a
 
       ready : AllReady m marks s many len ts are m.outputs 0
-      ready = all_ready m marks s ts are m.outputs 0 (subst (λ ds. ReadyAt m s ds m.outputs) (sym same) (ready_here m s m.outputs w.outputs (outputs_extents s a) o.owes o.shapes lit o.room))
+      ready = all_ready m marks s ts are m.outputs 0 (subst (λ ds. ReadyAt m s ds m.outputs) (sym same)
+          (ready_here m s m.outputs w.outputs (outputs_extents s a) o.owes o.shapes lit o.room))
 
       outs : (ds : List (List ℕ)) → ds ≡ input_extents m s → map length n.outputs ≡ map (λ o. word_count (dims o.term s ds)) m.outputs
       outs ds e = z.outputs ∙ ap (λ ds. map (λ o. word_count (dims o.term s ds)) m.outputs) (sym e)
@@ -232,7 +253,8 @@ module _ (m : Module) (finals : List FinalLine) (marks : List Path) (low : IsLow
       prepared =
           prepared_at m marks s many len ts are m.outputs 0 n (omega (arith, mem.outputs))
           (λ i l. let z : 0 + i ≡ i = omega arith in
-          ap (λ k. length (get_or n.outputs k [])) z ∙ sym (get_or-map_length n.outputs i) ∙ ap (λ v. get_or v i 0) (outs (extents_of (inputs_bound m.inputs s ts)) same))
+          ap (λ k. length (get_or n.outputs k [])) z ∙ sym (get_or-map_length n.outputs i)
+          ∙ ap (λ v. get_or v i 0) (outs (extents_of (inputs_bound m.inputs s ts)) same))
 
       scratch_many_is : length n.scratch ≡ many
       scratch_many_is = sym (length-map n.scratch length) ∙ ap length z.scratch ∙ (region_is m s (any_let m.outputs)).0
@@ -245,3 +267,6 @@ module _ (m : Module) (finals : List FinalLine) (marks : List Path) (low : IsLow
 
 pub lengths_are_right : LengthsAreRight
 lengths_are_right = has_lengths
+
+pub loops_are_right : LoopsAreRight
+loops_are_right m finals marks low lit = is_correct m finals marks low lit (accepted_is_owed m finals marks low)

@@ -1,5 +1,6 @@
 -- The loops of the program are the loops of the version, and no others.
-use Rattle.std.proofs.Common.{◌≡◌, ℕ, suc, ◌+◌, Bool, true, false, if◌then◌else◌, List, [], ◌∷◌, ◌++◌, length, map, Option, Some, None, Ok, pos, refl, sym, ap, ◌∙◌, subst, arith}
+use Rattle.std.proofs.Common.{◌≡◌, ℕ, suc, ◌+◌, Bool, true, false, if◌then◌else◌, List, [], ◌∷◌, ◌++◌, length, map, Option, Some, None, Ok, pos, refl, sym, ap}
+use Rattle.std.proofs.Common.{◌∙◌, subst, arith}
 use Rattle.affine_index.specs.declared.cond.Cmp.{Cmp}
 use Rattle.affine_index.specs.declared.cond.Cmp.TheVariants.{Ge, Eq}
 use Rattle.affine_index.specs.declared.cond.Rel.{Rel}
@@ -34,9 +35,13 @@ use Rattle.final_rules.specs.Owed.{tests_of}
 use Rattle.final_rules.specs.declared.spot.Around.TheVariants.{Swapped, Tiled, Later, Without}
 use Rattle.final_rules.specs.Places.{Place, shapes, shape_at, length_form}
 use Rattle.lowering_laws.specs.Marks.{Marks, output_marks, through_child, is_marked}
-use Rattle.lowering_laws.specs.Contexts.{Context, region, depth, tree_at, into_gen, into_sum, into_guard, adding, into_definition, into_body, onto_right, under_frame, into_flatten, into_truncr}
-use Rattle.lowering_laws.specs.Lowered.{words_tree, loaded, loaded_if, word_at, stored_by, leaf, loop_to, full_read, full_read_if, loops_at, output_spot, outputs_loops, program_of}
-use Rattle.lowering_laws.specs.Nest.{Fixed, Choice, Plus, Minus, Times, OfForm, Loop, When, Leaf, Nests, Under, none, next, chained, alone, side_of, tree_form, form_of, compared_of, word_of, all_chained, nests_step, nests_of, all_nests, nests_of_program, from_outside, form_at, compared_with, comparisons_at, load_if, nest_word, leaf_nest, read_nest, read_nest_if, nest_at, outputs_nest, module_nest}
+use Rattle.lowering_laws.specs.Contexts.{Context, region, depth, tree_at, into_gen, into_sum, into_guard, adding, into_definition, into_body, onto_right}
+use Rattle.lowering_laws.specs.Contexts.{under_frame, into_flatten, into_truncr}
+use Rattle.lowering_laws.specs.Lowered.{words_tree, loaded, loaded_if, word_at, stored_by, leaf, loop_to, full_read, full_read_if, loops_at, output_spot}
+use Rattle.lowering_laws.specs.Lowered.{outputs_loops, program_of}
+use Rattle.lowering_laws.specs.Nest.{Fixed, Choice, Plus, Minus, Times, OfForm, Loop, When, Leaf, Nests, Under, none, next, chained, alone, side_of, tree_form}
+use Rattle.lowering_laws.specs.Nest.{form_of, compared_of, word_of, all_chained, nests_step, nests_of, all_nests, nests_of_program, from_outside, form_at}
+use Rattle.lowering_laws.specs.Nest.{compared_with, comparisons_at, load_if, nest_word, leaf_nest, read_nest, read_nest_if, nest_at, outputs_nest, module_nest}
 
 chained_none : (xs : Nests) → chained xs none ≡ xs
 chained_none none = refl
@@ -105,8 +110,10 @@ word_nest (index e x) p h = load_nest (read_under (index e x) []) p
 word_nest (guard c e) p h =
     let hs = every_parts Back (comparisons c.all p.place) (word_printed e (into_guard c p).place) h in
     let inner : word_of (depth p) (word_at e (into_guard c p)) ≡ nest_word e (into_guard c p) =
-    subst (λ d. word_of d (word_at e (into_guard c p)) ≡ nest_word e (into_guard c p)) (binders-holds p.place.spot.path c) (word_nest e (into_guard c p) hs.1) in
-    ap (word_of (depth p)) (word_choice-is (tests_of (depth p) c.all) (word_at e (into_guard c p)) (word.Lit 0)) ∙ (λ i. Choice (tests_nest c.all p hs.0 i) (inner i) (Fixed 0))
+    subst (λ d. word_of d (word_at e (into_guard c p)) ≡ nest_word e (into_guard c p)) (binders-holds p.place.spot.path c)
+    (word_nest e (into_guard c p) hs.1) in
+    ap (word_of (depth p)) (word_choice-is (tests_of (depth p) c.all) (word_at e (into_guard c p)) (word.Lit 0))
+    ∙ (λ i. Choice (tests_nest c.all p hs.0 i) (inner i) (Fixed 0))
 word_nest (add a b) p h =
     let hs = every_parts Back (word_printed a p.place) (word_printed b p.place) h in
     ap (word_of (depth p)) (word_sum-is (word_at a p) (word_at b p)) ∙ (λ i. Plus (word_nest a p hs.0 i) (word_nest b p hs.1 i))
@@ -138,14 +145,16 @@ read_is (n ∷ ns) d p h =
     (subst (λ k. all_nests (full_read ns (one_deeper d) (into_gen n p)) k ≡ read_nest ns (one_deeper d) (into_gen n p)) (binders-bound p.place.spot.path n)
     (read_is ns (one_deeper d) (into_gen n p) h.1))
 
-read_if_is : (ns : Extents) (d : Option Read) (p : Context) → Every Back (full_read_printed_if ns d p.place) → all_nests (full_read_if ns d p) (depth p) ≡ read_nest_if ns d p
+read_if_is : (ns : Extents) (d : Option Read) (p : Context) → Every Back (full_read_printed_if ns d p.place)
+    → all_nests (full_read_if ns d p) (depth p) ≡ read_nest_if ns d p
 read_if_is ns None p h = refl
 read_if_is ns (Some d) p h = read_is ns d p h
 
 two_nests : (xs ys : List Stmt) (d : ℕ) (u v : Nests) → all_nests xs d ≡ u → all_nests ys d ≡ v → all_nests (xs ++ ys) d ≡ chained u v
 two_nests xs ys d u v g h = nests_append xs ys d ∙ (λ i. chained (g i) (h i))
 
-add_nest : (a b : Term) (p : Context) (ms : Marks) → (Every Back (printed_of a p.place) → all_nests (loops_at a (adding p) (through_child 0 ms)) (depth p) ≡ nest_at a (adding p) (through_child 0 ms))
+add_nest : (a b : Term) (p : Context) (ms : Marks) → (Every Back (printed_of a p.place)
+    → all_nests (loops_at a (adding p) (through_child 0 ms)) (depth p) ≡ nest_at a (adding p) (through_child 0 ms))
     → (Every Back (printed_of b p.place) → all_nests (loops_at b (adding p) (through_child 1 ms)) (depth p) ≡ nest_at b (adding p) (through_child 1 ms))
     → (c : Bool) → Every Back (if c then leaf_printed (add a b) p.place else (printed_of a p.place ++ printed_of b p.place))
     → all_nests (if c then leaf (add a b) p else (loops_at a (adding p) (through_child 0 ms) ++ loops_at b (adding p) (through_child 1 ms))) (depth p)
@@ -162,17 +171,20 @@ nest_is (TVar q) p ms h = read_if_is (shape_at (TVar q) p.place) (read_under (TV
 nest_is (index e x) p ms h = read_if_is (shape_at (index e x) p.place) (read_under (index e x) []) p h
 nest_is (gen n e) p ms h =
     loop_nest n (is_marked ms) p _ _ h.0
-    (subst (λ k. all_nests (loops_at e (into_gen n p) (through_child 0 ms)) k ≡ nest_at e (into_gen n p) (through_child 0 ms)) (binders-bound p.place.spot.path n)
+    (subst (λ k. all_nests (loops_at e (into_gen n p) (through_child 0 ms)) k ≡ nest_at e (into_gen n p) (through_child 0 ms))
+    (binders-bound p.place.spot.path n)
     (nest_is e (into_gen n p) (through_child 0 ms) h.1))
 nest_is (sum n e) p ms h =
     loop_nest n false p _ _ h.0
-    (subst (λ k. all_nests (loops_at e (into_sum n p) (through_child 0 ms)) k ≡ nest_at e (into_sum n p) (through_child 0 ms)) (binders-bound p.place.spot.path n)
+    (subst (λ k. all_nests (loops_at e (into_sum n p) (through_child 0 ms)) k ≡ nest_at e (into_sum n p) (through_child 0 ms))
+    (binders-bound p.place.spot.path n)
     (nest_is e (into_sum n p) (through_child 0 ms) h.1))
 nest_is (guard c e) p ms h =
     let hs = every_parts Back (comparisons c.all p.place) (printed_of e (into_guard c p).place) h in
     let xs = loops_at e (into_guard c p) (through_child 0 ms) in
     let inner : all_nests xs (depth p) ≡ nest_at e (into_guard c p) (through_child 0 ms) =
-    subst (λ k. all_nests xs k ≡ nest_at e (into_guard c p) (through_child 0 ms)) (binders-holds p.place.spot.path c) (nest_is e (into_guard c p) (through_child 0 ms) hs.1) in
+    subst (λ k. all_nests xs k ≡ nest_at e (into_guard c p) (through_child 0 ms)) (binders-holds p.place.spot.path c)
+    (nest_is e (into_guard c p) (through_child 0 ms) hs.1) in
     chained_none (nests_of (If (tests_of (depth p) c.all) (Seq xs)) (depth p))
     ∙ (λ i. fold-if Under nests_step (tests_of (depth p) c.all) (Seq xs) i (depth p))
     ∙ (λ i. alone (When (tests_nest c.all p hs.0 i) ((nests_seq xs (depth p) ∙ inner) i)))
@@ -196,7 +208,8 @@ nest_is (trunc_r a e) p ms h = nest_is e (into_truncr a e p) (through_child 0 ms
 nest_is (pad_l a e) p ms h = nest_is e (under_frame (Later a) p) (through_child 0 ms) h
 nest_is (pad_r a e) p ms h = nest_is e p (through_child 0 ms) h
 
-outputs_nest_is : (m : Module) (marks : List Path) (os : List OutputDecl) (j : ℕ) → Every Back (body_printed m os) → all_nests (outputs_loops m marks os j) 0 ≡ outputs_nest m marks os j
+outputs_nest_is : (m : Module) (marks : List Path) (os : List OutputDecl) (j : ℕ) → Every Back (body_printed m os)
+    → all_nests (outputs_loops m marks os j) 0 ≡ outputs_nest m marks os j
 outputs_nest_is m marks [] j h = refl
 outputs_nest_is m marks (o ∷ os) j h =
     let hs = every_parts Back (printed_of o.term (output_place m o)) (body_printed m os) h.1.1 in

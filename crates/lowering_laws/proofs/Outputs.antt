@@ -1,5 +1,5 @@
 -- The outputs of a program, one after another: each is zeroed and then written.
-use Rattle.std.proofs.Common.{◌≡◌, ℕ, zero, suc, ◌+◌, ◌^◌, ◌<◌, List, [], ◌∷◌, ◌++◌, length, map, get_or, pos, refl, sym, ap, ◌∙◌, subst, arith}
+use Rattle.std.proofs.Common.{◌≡◌, ℕ, zero, suc, ◌+◌, ◌^◌, ◌<◌, List, [], ◌∷◌, ◌++◌, length, map, get_or, pos, refl, sym, ap, ◌∙◌, arith}
 use Rattle.std.proofs.Common.{length-set, get_or-set_other}
 use Rattle.affine_index.specs.Form.{literal_form}
 use Rattle.affine_index.proofs.Values.{value-literal}
@@ -11,9 +11,7 @@ use Rattle.term_tree.specs.Tensors.{Tensor}
 use Rattle.term_tree.specs.Meaning.{Bound, count_of, dims, den, extent, extents_of}
 use Rattle.term_tree.specs.Shaped.{flat, word_count}
 use Rattle.term_tree.specs.Modules.{AreInputs, extents_at, inputs_bound}
-use Rattle.shape_rules.specs.Fits.{AllShaped, AllWords}
 use Rattle.shape_rules.proofs.ModuleLaws.{bound_shaped, bound_words}
-use Rattle.loop_lang.specs.declared.word.Buf.{Buf}
 use Rattle.loop_lang.specs.declared.word.Buf.TheVariants.{Output}
 use Rattle.loop_lang.specs.declared.stmt.Stmt.{Stmt}
 use Rattle.loop_lang.specs.Reckoning.{Value, reckon}
@@ -24,7 +22,7 @@ use Rattle.loop_lang.proofs.Statements.{acts-zero}
 use Rattle.index_trees.specs.Tree.{index_tree}
 use Rattle.index_trees.proofs.TreeLaws.{tree-items}
 use Rattle.final_rules.specs.Rules.{input_site, output_extents}
-use Rattle.lowering.proofs.Does.{Area, In, Out, part, region, Leaves, Does}
+use Rattle.lowering.proofs.Does.{Area, In, Out, region, Leaves, Does}
 use Rattle.lowering_laws.specs.Contexts.{Context}
 use Rattle.lowering_laws.specs.Marks.{output_marks}
 use Rattle.lowering_laws.specs.Lowered.{loops_at, input_buffers, output_spot, words_tree, outputs_loops}
@@ -45,13 +43,15 @@ place_zero s = ap (λ x. reckon x s []) (tree-items 0 (literal_form (pos 0)))
 
 -- the inputs stay as they are, whatever is written
 pub inputs_held : (s : List ℕ) (k : ℕ) (ds : List InputDecl) (ts : List Tensor) (T : Area) (n : Memory) → AreInputs ds s ts
-    → ((i : ℕ) → i < length ts → get_or n.inputs (k + i) [] ≡ get_or (map flat ts) i []) → AllHeld s (map input_site ds) (input_buffers k ds) (areas_from k ds) (inputs_bound ds s ts) T 0 n
+    → ((i : ℕ) → i < length ts → get_or n.inputs (k + i) [] ≡ get_or (map flat ts) i [])
+    → AllHeld s (map input_site ds) (input_buffers k ds) (areas_from k ds) (inputs_bound ds s ts) T 0 n
 inputs_held s k [] ts T n h e = tt
 inputs_held s k (d ∷ ds) [] T n h e = absurd h
 inputs_held s k (d ∷ ds) (t ∷ ts) T n h e =
     let z : k ≡ k + 0 = omega arith in (
       record { extents = refl; offset = extent_zero s; buffer = refl; calm = tt; words_are = ap (λ i. get_or n.inputs i []) z ∙ e 0 (omega arith) },
-      inputs_held s (k + 1) ds ts T n h.2 (λ i l. let z : k + 1 + i ≡ k + suc i = omega arith in ap (λ i. get_or n.inputs i []) z ∙ e (suc i) (omega (arith, l))),
+      inputs_held s (k + 1) ds ts T n h.2 (λ i l. let z : k + 1 + i ≡ k + suc i = omega arith in ap (λ i. get_or n.inputs i []) z
+          ∙ e (suc i) (omega (arith, l))),
     )
 
 module _ (m : Module) (marks : List Path) (s : List ℕ) (many len : ℕ) (ts : List Tensor) (are : AreInputs m.inputs s ts) where
@@ -110,7 +110,8 @@ module _ (m : Module) (marks : List Path) (s : List ℕ) (many len : ℕ) (ts : 
         runs = ap (λ l. apply l n) actions ∙ apply-after (then_follow zs body) (acts_all others s []) n one.after one.runs ∙ rest.runs;
         delivered = (rest.before j (omega arith) ∙ p.there, rest.delivered);
         before = λ i h.
-            rest.before i (omega (arith, h)) ∙ ap (λ v. get_or v i []) p.outputs ∙ get_or-set_other n.outputs j i words [] (λ (d : i ≡ j). absurd (omega (arith, h, d)));
+            rest.before i (omega (arith, h)) ∙ ap (λ v. get_or v i []) p.outputs
+            ∙ get_or-set_other n.outputs j i words [] (λ (d : i ≡ j). absurd (omega (arith, h, d)));
         inputs = rest.inputs ∙ p.inputs;
         many_outputs = rest.many_outputs ∙ ap length p.outputs ∙ length-set n.outputs j words;
       }
@@ -132,20 +133,24 @@ module _ (m : Module) (marks : List Path) (s : List ℕ) (many len : ℕ) (ts : 
 
       one : Does (then_follow zs body) (Out j) 0 n words
       one =
-          output_right s many len m o j (output_marks j marks) (areas_from 0 m.inputs) bounds n prepared.0 prepared.1 ready.0.small ready.0.extents (extent_zero s) ready.0.owed
-          (inputs_held s 0 m.inputs ts (Out j) n are (λ i l. let z : 0 + i ≡ i = omega arith in ap (λ k. get_or n.inputs k []) z ∙ ap (λ v. get_or v i []) held))
+          output_right s many len m o j (output_marks j marks) (areas_from 0 m.inputs) bounds n prepared.0 prepared.1 ready.0.small ready.0.extents
+          (extent_zero s) ready.0.owed
+          (inputs_held s 0 m.inputs ts (Out j) n are (λ i l. let z : 0 + i ≡ i = omega arith in ap (λ k. get_or n.inputs k []) z
+          ∙ ap (λ v. get_or v i []) held))
           (bound_shaped s m.inputs ts are) (bound_words s m.inputs ts are) sm sl
 
       p : Leaves (Out j) 0 n words one.after
       p = one.leaves
 
       rest : Runs os (j + 1) one.after
-      rest = ih (j + 1) one.after ready.1 (prepared_after os j (j + 1) n one.after words (omega arith) p prepared.2) (p.inputs ∙ held) (p.many ∙ sm) (p.long ∙ sl)
+      rest = ih (j + 1) one.after ready.1 (prepared_after os j (j + 1) n one.after words (omega arith) p prepared.2) (p.inputs ∙ held) (p.many ∙ sm) (p.long
+          ∙ sl)
 
       actions : acts_all (outputs_loops m marks (o ∷ os) j) s [] ≡ then_follow (then_follow zs body) (acts_all others s [])
       actions =
           ap (λ l. then_follow l (acts_all (loops_at o.term spot (output_marks j marks) ++ others) s []))
-          (acts-zero (Output j) (index_tree 0 (literal_form (pos 0))) (words_tree (output_extents m o)) s [] ∙ (λ i. fill (Output j) (place_zero s i) (ready.0.computed i)))
+          (acts-zero (Output j) (index_tree 0 (literal_form (pos 0))) (words_tree (output_extents m o)) s []
+          ∙ (λ i. fill (Output j) (place_zero s i) (ready.0.computed i)))
           ∙ ap (then_follow zs) (acts_all-append (loops_at o.term spot (output_marks j marks)) others s [])
           ∙ sym (then_follow-assoc zs body (acts_all others s []))
 
@@ -153,7 +158,8 @@ module _ (m : Module) (marks : List Path) (s : List ℕ) (many len : ℕ) (ts : 
   outputs_run [] = none_run
   outputs_run (o ∷ os) = one_run o os (outputs_run os)
 
-  pub delivered_at : (os : List OutputDecl) (j i : ℕ) (n : Memory) → Delivered os j n → i < length os → get_or n.outputs (j + i) [] ≡ get_or (map flat (map (λ o. den o.term s [] bounds) os)) i []
+  pub delivered_at : (os : List OutputDecl) (j i : ℕ) (n : Memory) → Delivered os j n → i < length os
+      → get_or n.outputs (j + i) [] ≡ get_or (map flat (map (λ o. den o.term s [] bounds) os)) i []
   delivered_at [] j i n h l = absurd (omega (arith, l))
   delivered_at (o ∷ os) j zero n h l = let e : j + 0 ≡ j = omega arith in ap (λ k. get_or n.outputs k []) e ∙ h.0
   delivered_at (o ∷ os) j (suc i) n h l =

@@ -1,5 +1,5 @@
 -- In a module that may be lowered each printed form is the normal form of its tree, so that the loops are those of the version.
-use Rattle.std.proofs.Common.{◌≡◌, ℕ, ◌+◌, Bool, true, false, ◌&&◌, nat_le, List, [], ◌∷◌, ◌++◌, length, map, None, Ok, Err, refl, sym, ap, ◌∙◌, subst}
+use Rattle.std.proofs.Common.{◌≡◌, ℕ, ◌+◌, true, ◌&&◌, nat_le, List, [], ◌∷◌, ◌++◌, length, map, None, Ok, Err, refl, sym, subst}
 use Rattle.std.specs.Prelude.{pos}
 use Rattle.std.proofs.lemmas.Bool.{and_parts}
 use Rattle.std.proofs.lemmas.List.{append-nil}
@@ -24,7 +24,8 @@ use Rattle.term_tree.specs.Shape.{Extents}
 use Rattle.final_rules.specs.Accepted.{IsLowerable}
 use Rattle.final_rules.specs.Printed.{Printed, form_small, greatest, is_small, largest_index, printed_of}
 use Rattle.final_rules.specs.declared.fault.FinalFault.TheVariants.{IndexTooLarge}
-use Rattle.final_rules.specs.Rules.{Expression, Index, body_printed, expression_small, form_fault, goal_fault, input_lengths, input_site, large_fault, line_fault, mark_fault, maxima}
+use Rattle.final_rules.specs.Rules.{Expression, Index, body_printed, expression_small, form_fault, goal_fault, input_lengths, input_site, large_fault}
+use Rattle.final_rules.specs.Rules.{line_fault, mark_fault, maxima}
 use Rattle.final_rules.specs.Rules.{module_goals, output_extents, output_lengths, output_place, printed, scratch_printed}
 use Rattle.final_rules.proofs.Accepted.{if_none}
 use Rattle.final_rules.proofs.Main.{or_none}
@@ -37,7 +38,8 @@ use Rattle.lowering_laws.proofs.NestLaws.{Back, module_nest_is}
 use Rattle.lowering_laws.proofs.TreeForms.{tree_back}
 
 -- each is small where no expression is too large
-all_small : (maxima : List ℕ) (k : ℕ) (is : List Printed) (xs : List Expression) → large_fault maxima k (map Index is ++ xs) ≡ None → Every (λ i. is_small maxima i ≡ true) is
+all_small : (maxima : List ℕ) (k : ℕ) (is : List Printed) (xs : List Expression) → large_fault maxima k (map Index is ++ xs) ≡ None
+    → Every (λ i. is_small maxima i ≡ true) is
 all_small maxima k [] xs e = tt
 all_small maxima k (i ∷ is) xs e =
     let p = if_none (is_small maxima i) (large_fault maxima (k + 1) (map Index is ++ xs)) (IndexTooLarge k) e in
@@ -48,7 +50,8 @@ later_small maxima k [] ys h = (k, h)
 later_small maxima k (x ∷ xs) ys h =
     later_small maxima (k + 1) xs ys (if_none (expression_small maxima x) (large_fault maxima (k + 1) (xs ++ ys)) (IndexTooLarge k) h).1
 
-same_form : (sizes : ℕ) (maxima vars : List ℕ) (loops : ℕ) (l : Limited Items) → form_small maxima vars l ≡ true → ((z : Items) → l ≡ Ok z → items_scoped sizes loops z ≡ true)
+same_form : (sizes : ℕ) (maxima vars : List ℕ) (loops : ℕ) (l : Limited Items) → form_small maxima vars l ≡ true
+    → ((z : Items) → l ≡ Ok z → items_scoped sizes loops z ≡ true)
     → (z : Items) × (l ≡ Ok z) × (tree_form loops (index_tree loops z) ≡ z)
 same_form sizes maxima vars loops (Err e) h s = absurd (cc)
 same_form sizes maxima vars loops (Ok z) h s =
@@ -101,7 +104,8 @@ body_in m (o ∷ os) i c =
       plain_in sizes (literal_form (pos 0)) (literal-at sizes 0 (pos 0)),
       (
         words_in sizes (output_extents m o) own,
-        every-append sizes (InScopeOf sizes) (printed_of o.term (output_place m o)) (body_printed m os) (printed-at sizes o.term (output_place m o) 0 (length m.inputs) p.0 at)
+        every-append sizes (InScopeOf sizes) (printed_of o.term (output_place m o)) (body_printed m os)
+            (printed-at sizes o.term (output_place m o) 0 (length m.inputs) p.0 at)
             (body_in m os i p.1),
       ),
     )
@@ -115,8 +119,10 @@ body_back m finals marks low =
     let body = body_printed m m.outputs in
     let r1 = later_small (maxima m) 1 (map Index (input_lengths m ++ output_lengths m)) (scratch_printed m ++ map Index body) e4.0 in
     let r2 = later_small (maxima m) r1.0 (scratch_printed m) (map Index body) r1.1 in
-    let small = all_small (maxima m) r2.0 body [] (subst (λ (es : List Expression). large_fault (maxima m) r2.0 es ≡ None) (sym (append-nil (map Index body))) r2.1) in
-    let c = and_parts (all_scoped (length m.sizes) 0 m.assumes) (inputs_scoped (length m.sizes) m.inputs && outputs_scoped (length m.sizes) (length m.inputs) m.outputs) low.sound.scoped in
+    let small = all_small (maxima m) r2.0 body [] (subst (λ (es : List Expression). large_fault (maxima m) r2.0 es ≡ None)
+    (sym (append-nil (map Index body))) r2.1) in
+    let c = and_parts (all_scoped (length m.sizes) 0 m.assumes) (inputs_scoped (length m.sizes) m.inputs && outputs_scoped (length m.sizes)
+    (length m.inputs) m.outputs) low.sound.scoped in
     let d = and_parts (inputs_scoped (length m.sizes) m.inputs) (outputs_scoped (length m.sizes) (length m.inputs) m.outputs) c.1 in
     all_back (length m.sizes) (maxima m) body small (body_in m m.outputs d.0 d.1)
 

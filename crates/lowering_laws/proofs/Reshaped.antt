@@ -27,7 +27,8 @@ use Rattle.reindexer.specs.Sending.{kept, swapped, flattened, spread}
 use Rattle.lowering_laws.specs.Sending.{shifted, dropped, sends}
 use Rattle.lowering_laws.proofs.Scattered.{scatter_concat, scatter_pad_r, scatter_pad_l, scatter_first, scatter_later, scatter_flatten, scatter_split}
 use Rattle.lowering_laws.proofs.Transposed.{scatter_transpose}
-use Rattle.lowering_laws.proofs.Goods.{chunks, clear_through, widen, shift_in, shifted_inj, apart_rows, Good, good_kept, good_swapped, good_shifted, good_wide, good_dropped, good_flat, good_spread, chunks_hold}
+use Rattle.lowering_laws.proofs.Goods.{chunks, clear_through, widen, shift_in, shifted_inj, apart_rows, Good, good_kept, good_swapped, good_shifted, good_wide}
+use Rattle.lowering_laws.proofs.Goods.{good_dropped, good_flat, good_spread, chunks_hold}
 use Rattle.lowering_laws.proofs.Right.{Stands, State, Owed, Right, LoopsBelow, state_after, same_state}
 
 first_is : (d : List ℕ) → HasFirst d → d ≡ head_of d ∷ tail_of d
@@ -41,26 +42,40 @@ two_is (n ∷ m ∷ ns) h = refl
 
 module _ (s : List ℕ) (many len : ℕ) where
   -- the part at q, whose tuples of ds go by g where those of cs go by f
-  reshaped : (e : Term) → Right s many len e → (q : Context) (ms : Marks) (ar : List Area) (t : List Bound) (T : Area) (es r y : List ℕ) (g f : Placing) (cs ds : List ℕ) (u : Tensor) (k : ℕ) (m : Memory)
-      → Stands s many len q T es r g k → Owed s many len e q t r y k → dims e s (extents_of t) ≡ ds → Good cs f ds g → Injective cs f → InRange cs f (word_count es) → State s many len q ar t T es k m
-      → Clear q.mode cs f (part m T) → (HasShape ds (den e s y t) → scatter u f (part m T) ≡ scatter (den e s y t) g (part m T)) → Does (acts_all (loops_at e q ms) s r) T k m (scatter u f (part m T))
+  reshaped : (e : Term) → Right s many len e → (q : Context) (ms : Marks) (ar : List Area) (t : List Bound) (T : Area) (es r y : List ℕ) (g f : Placing)
+      (cs ds : List ℕ) (u : Tensor) (k : ℕ) (m : Memory)
+      → Stands s many len q T es r g k → Owed s many len e q t r y k → dims e s (extents_of t) ≡ ds → Good cs f ds g → Injective cs f
+      → InRange cs f (word_count es) → State s many len q ar t T es k m
+      → Clear q.mode cs f (part m T) → (HasShape ds (den e s y t) → scatter u f (part m T) ≡ scatter (den e s y t) g (part m T))
+      → Does (acts_all (loops_at e q ms) s r) T k m (scatter u f (part m T))
   reshaped e ih q ms ar t T es r y g f cs ds u k m std ow shape good inj inside st clear law =
       subst (Does (acts_all (loops_at e q ms) s r) T k m) (sym (law (subst (λ d. HasShape d (den e s y t)) shape (den_shape e s y t ow.shapes st.shaped))))
       (ih q ms ar t T es r y g k m std ow
       (subst (λ v. Injective v g) (sym shape) (good.apart inj))
       (λ ix p w a. let i = good.back ix p (subst (λ v. Within v ix) shape w) a in inside i.0 p i.1 i.2) st
-      (clear_through q.mode cs (dims e s (extents_of t)) f g (part m T) (part m T) (λ ix p w a. let i = good.back ix p (subst (λ v. Within v ix) shape w) a in (i.0, i.1, i.2, refl)) clear))
+      (clear_through q.mode cs (dims e s (extents_of t)) f g (part m T) (part m T)
+      (λ ix p w a. let i = good.back ix p (subst (λ v. Within v ix) shape w) a in (i.0, i.1, i.2, refl)) clear))
 
   -- under one more change of places
-  under_std : (p : Context) (x : Around) (T : Area) (es r : List ℕ) (f g : Placing) (k : ℕ) → sends es s r (x ∷ p.place.spot.around) ≡ g → LoopsBelow (length r) (x ∷ p.place.spot.around) → Stands s many len p T es r f k → Stands s many len (under_frame x p) T es r g k
-  under_std p x T es r f g k e b std = record { depth_is = std.depth_is; sends_is = e; below = b; buffer = std.buffer; offset = std.offset; extents = std.extents; free = std.free }
+  under_std : (p : Context) (x : Around) (T : Area) (es r : List ℕ) (f g : Placing) (k : ℕ) → sends es s r (x ∷ p.place.spot.around) ≡ g
+      → LoopsBelow (length r) (x ∷ p.place.spot.around) → Stands s many len p T es r f k → Stands s many len (under_frame x p) T es r g k
+  under_std p x T es r f g k e b std = record {
+    depth_is = std.depth_is;
+    sends_is = e;
+    below = b;
+    buffer = std.buffer;
+    offset = std.offset;
+    extents = std.extents;
+    free = std.free;
+  }
 
   pub pad_r_right : (a : Items) (e : Term) → Right s many len e → Right s many len (pad_r a e)
   pad_r_right a e ih p ms ar t T es r y f k m std ow inj inside st clear =
       let d = dims e s (extents_of t) in
       let u = den e s y t in
       reshaped e ih p (through_child 0 ms) ar t T es r y f f ((head_of d + extent a s) ∷ tail_of d) (head_of d ∷ tail_of d) (den (pad_r a e) s y t) k m std
-      (record { owes = ow.owes; shapes = ow.shapes.1; literals = ow.literals; room = ow.room }) (first_is d ow.shapes.0) (good_wide (head_of d) (extent a s) (tail_of d) f) inj inside st clear
+      (record { owes = ow.owes; shapes = ow.shapes.1; literals = ow.literals; room = ow.room }) (first_is d ow.shapes.0)
+      (good_wide (head_of d) (extent a s) (tail_of d) f) inj inside st clear
       (λ h. scatter_pad_r (extent a s) (head_of d) (tail_of d) u f (part m T) st.word h)
 
   pub pad_l_right : (a : Items) (e : Term) → Right s many len e → Right s many len (pad_l a e)
@@ -68,19 +83,24 @@ module _ (s : List ℕ) (many len : ℕ) where
       let d = dims e s (extents_of t) in
       let n = extent a s in
       let c : head_of d + n ≡ n + head_of d = omega arith in
-      reshaped e ih (under_frame (Later a) p) (through_child 0 ms) ar t T es r y (shifted n f) f ((n + head_of d) ∷ tail_of d) (head_of d ∷ tail_of d) (den (pad_l a e) s y t) k m
+      reshaped e ih (under_frame (Later a) p) (through_child 0 ms) ar t T es r y (shifted n f) f ((n + head_of d) ∷ tail_of d) (head_of d ∷ tail_of d)
+      (den (pad_l a e) s y t) k m
       (under_std p (Later a) T es r f (shifted n f) k (ap (shifted n) std.sends_is) std.below std)
-      (record { owes = ow.owes; shapes = ow.shapes.1; literals = ow.literals; room = ow.room }) (first_is d ow.shapes.0) (good_shifted n (head_of d) (tail_of d) f)
-      (subst (λ v. Injective (v ∷ tail_of d) f) c inj) (subst (λ v. InRange (v ∷ tail_of d) f (word_count es)) c inside) (same_state s many len p (under_frame (Later a) p) ar t T es k m refl refl st) (subst (λ v. Clear p.mode (v ∷ tail_of d) f (part m T)) c clear)
+      (record { owes = ow.owes; shapes = ow.shapes.1; literals = ow.literals; room = ow.room }) (first_is d ow.shapes.0)
+      (good_shifted n (head_of d) (tail_of d) f)
+      (subst (λ v. Injective (v ∷ tail_of d) f) c inj) (subst (λ v. InRange (v ∷ tail_of d) f (word_count es)) c inside)
+      (same_state s many len p (under_frame (Later a) p) ar t T es k m refl refl st) (subst (λ v. Clear p.mode (v ∷ tail_of d) f (part m T)) c clear)
       (λ h. scatter_pad_l n (head_of d) (tail_of d) (den e s y t) f (part m T) st.word h)
 
   pub trunc_l_right : (a : Items) (e : Term) → Right s many len e → Right s many len (trunc_l a e)
   trunc_l_right a e ih p ms ar t T es r y f k m std ow inj inside st clear =
       let d = dims e s (extents_of t) in
       let n = extent a s in
-      reshaped e ih (under_frame (Without a) p) (through_child 0 ms) ar t T es r y (dropped n f) f ((head_of d - n) ∷ tail_of d) (head_of d ∷ tail_of d) (den (trunc_l a e) s y t) k m
+      reshaped e ih (under_frame (Without a) p) (through_child 0 ms) ar t T es r y (dropped n f) f ((head_of d - n) ∷ tail_of d) (head_of d ∷ tail_of d)
+      (den (trunc_l a e) s y t) k m
       (under_std p (Without a) T es r f (dropped n f) k (ap (dropped n) std.sends_is) std.below std)
-      (record { owes = ow.owes; shapes = ow.shapes.1; literals = ow.literals; room = ow.room }) (first_is d ow.shapes.0) (good_dropped n (head_of d) (tail_of d) f)
+      (record { owes = ow.owes; shapes = ow.shapes.1; literals = ow.literals; room = ow.room }) (first_is d ow.shapes.0)
+      (good_dropped n (head_of d) (tail_of d) f)
       inj inside (same_state s many len p (under_frame (Without a) p) ar t T es k m refl refl st) clear
       (λ h. scatter_later n (head_of d) (tail_of d) (den e s y t) f (part m T) h)
 
@@ -89,9 +109,12 @@ module _ (s : List ℕ) (many len : ℕ) where
       let d = dims e s (extents_of t) in
       let n = extent a s in
       let x = Before (first_of (shape_at (trunc_r a e) p.place)) in
-      reshaped e ih (under_frame x p) (through_child 0 ms) ar t T es r y (kept (head_of d - n) f) f ((head_of d - n) ∷ tail_of d) (head_of d ∷ tail_of d) (den (trunc_r a e) s y t) k m
-      (under_std p x T es r f (kept (head_of d - n) f) k (ap (λ v. kept v (sends es s r p.place.spot.around)) ow.owes.0 ∙ ap (kept (head_of d - n)) std.sends_is) std.below std)
-      (record { owes = ow.owes.1; shapes = ow.shapes.1; literals = ow.literals; room = ow.room }) (first_is d ow.shapes.0) (good_kept (head_of d - n) (head_of d) (tail_of d) f)
+      reshaped e ih (under_frame x p) (through_child 0 ms) ar t T es r y (kept (head_of d - n) f) f ((head_of d - n) ∷ tail_of d) (head_of d ∷ tail_of d)
+      (den (trunc_r a e) s y t) k m
+      (under_std p x T es r f (kept (head_of d - n) f) k (ap (λ v. kept v (sends es s r p.place.spot.around)) ow.owes.0
+      ∙ ap (kept (head_of d - n)) std.sends_is) std.below std)
+      (record { owes = ow.owes.1; shapes = ow.shapes.1; literals = ow.literals; room = ow.room }) (first_is d ow.shapes.0)
+      (good_kept (head_of d - n) (head_of d) (tail_of d) f)
       inj inside (same_state s many len p (under_frame x p) ar t T es k m refl refl st) clear
       (λ h. scatter_first n (head_of d) (tail_of d) (den e s y t) f (part m T) h)
 
@@ -103,7 +126,8 @@ module _ (s : List ℕ) (many len : ℕ) where
       let ds = tail_of (tail_of d) in
       let x = Joined (first_of (rest_of (shape_at e p.place))) in
       reshaped e ih (under_frame x p) (through_child 0 ms) ar t T es r y (flattened q f) f ((n * q) ∷ ds) (n ∷ q ∷ ds) (den (flatten e) s y t) k m
-      (under_std p x T es r f (flattened q f) k (ap (λ v. flattened v (sends es s r p.place.spot.around)) ow.owes.0 ∙ ap (flattened q) std.sends_is) std.below std)
+      (under_std p x T es r f (flattened q f) k (ap (λ v. flattened v (sends es s r p.place.spot.around)) ow.owes.0
+      ∙ ap (flattened q) std.sends_is) std.below std)
       (record { owes = ow.owes.1; shapes = ow.shapes.1; literals = ow.literals; room = ow.room }) (two_is d ow.shapes.0) (good_flat n q ds f)
       inj inside (same_state s many len p (under_frame x p) ar t T es k m refl refl st) clear
       (λ h. scatter_flatten n q ds (den e s y t) f (part m T) h)
@@ -112,9 +136,11 @@ module _ (s : List ℕ) (many len : ℕ) where
   split_right c e ih p ms ar t T es r y f k m std ow inj inside st clear =
       let d = dims e s (extents_of t) in
       let n = head_of d in
-      reshaped e ih (under_frame (Tiled c) p) (through_child 0 ms) ar t T es r y (spread c f) f (chunks n c ∷ c ∷ tail_of d) (n ∷ tail_of d) (den (split c e) s y t) k m
+      reshaped e ih (under_frame (Tiled c) p) (through_child 0 ms) ar t T es r y (spread c f) f (chunks n c ∷ c ∷ tail_of d) (n ∷ tail_of d)
+      (den (split c e) s y t) k m
       (under_std p (Tiled c) T es r f (spread c f) k (ap (spread c) std.sends_is) std.below std)
-      (record { owes = ow.owes.1; shapes = ow.shapes.1; literals = ow.literals; room = ow.room }) (first_is d ow.shapes.0) (good_spread n c (tail_of d) f ow.owes.0)
+      (record { owes = ow.owes.1; shapes = ow.shapes.1; literals = ow.literals; room = ow.room }) (first_is d ow.shapes.0)
+      (good_spread n c (tail_of d) f ow.owes.0)
       inj inside (same_state s many len p (under_frame (Tiled c) p) ar t T es k m refl refl st) clear
       (λ h. scatter_split n (chunks n c) c (tail_of d) (den e s y t) f (part m T) st.word h (chunks_hold n c ow.owes.0))
 
@@ -143,15 +169,21 @@ module _ (s : List ℕ) (many len : ℕ) where
       let w : part c T ≡ scatter ta f (part m T) = h.there in
       subst (λ ws. Does (acts_all lb s r) T k c (scatter tb g ws)) w
       (ib (onto_right a p) (through_child 1 ms) ar t T es r y g k c
-      (under_std p (Later (first_of (shape_at a p.place))) T es r f g k (ap (λ v. shifted v (sends es s r p.place.spot.around)) ow.owes.0 ∙ ap (shifted n) std.sends_is) std.below std)
+      (under_std p (Later (first_of (shape_at a p.place))) T es r f g k (ap (λ v. shifted v (sends es s r p.place.spot.around)) ow.owes.0
+      ∙ ap (shifted n) std.sends_is) std.below std)
       (record { owes = ow.owes.2; shapes = ow.shapes.2; literals = ow.literals.1; room = ow.room.1 })
       (subst (λ v. Injective v g) (sym db_is) (shifted_inj n q ts f inj))
       (λ ix v z e. let i = shift_in n q ts ix v f (subst (λ z. Within z ix) db_is z) e in inside ((n + i.0) ∷ i.1) v i.3 i.4)
       (same_state s many len p (onto_right a p) ar t T es k c refl refl sc)
       (clear_through p.mode ((n + q) ∷ ts) db f g (part m T) (part c T)
       (λ ix v z e.
-      let i = shift_in n q ts ix v f (subst (λ z. Within z ix) db_is z) e in
-      ((n + i.0) ∷ i.1, i.3, i.4, ap (λ ws. get_or ws v 0) w ∙ scatter_other ta da f (part m T) v ha (λ jx x c. apart_rows n q ts f i.0 v i.1 jx inj i.3 i.4 (subst (λ z. Within z jx) da_is x) c)))
+      let i = shift_in n q ts ix v f (subst (λ z. Within z ix) db_is z) e in (
+        (n + i.0) ∷ i.1,
+        i.3,
+        i.4,
+        ap (λ ws. get_or ws v 0) w ∙ scatter_other ta da f (part m T) v ha
+            (λ jx x c. apart_rows n q ts f i.0 v i.1 jx inj i.3 i.4 (subst (λ z. Within z jx) da_is x) c),
+      ))
       clear)))))
     where
       da : List ℕ

@@ -1,5 +1,6 @@
 -- The loops of a term leave what it denotes.
-use Rattle.std.proofs.Common.{◌≡◌, ℕ, zero, suc, ◌+◌, ◌-◌, ◌%◌, ◌^◌, ◌<◌, ◌≤◌, Bool, true, false, if◌then◌else◌, List, [], ◌∷◌, ◌++◌, length, get_or, set, replicate, Some, pos, inl, inr, refl, sym, ap, ◌∙◌, subst, arith, length-append}
+use Rattle.std.proofs.Common.{◌≡◌, ℕ, zero, suc, ◌+◌, ◌%◌, ◌^◌, ◌<◌, ◌≤◌, Bool, true, false, if◌then◌else◌, List, [], ◌∷◌, ◌++◌, length, get_or, set}
+use Rattle.std.proofs.Common.{replicate, Some, pos, inl, inr, refl, sym, ap, ◌∙◌, subst, arith, length-append}
 use Rattle.std.proofs.lemmas.List.{get_or_append_left, get_or_at, length-replicate}
 use Rattle.std.proofs.Math.Nat.{mod-eq_of_lt}
 use Rattle.affine_index.specs.Condition.{all_hold}
@@ -21,7 +22,8 @@ use Rattle.loop_lang.specs.declared.word.Wexp.{Wexp}
 use Rattle.loop_lang.specs.declared.stmt.Stmt.{Stmt}
 use Rattle.loop_lang.specs.declared.stmt.Stmt.TheVariants.{Seq}
 use Rattle.loop_lang.specs.Reckoning.{Value, reckon, tested}
-use Rattle.loop_lang.specs.Actions.{Mode, Puts, Adds, Action, Store, grow, then_follow, turns, turns_below, if_holds, store, store_at, zeroed, fill, acts, acts_all}
+use Rattle.loop_lang.specs.Actions.{Mode, Puts, Adds, Action, Store, grow, then_follow, turns, turns_below, if_holds, store, store_at, zeroed, fill, acts}
+use Rattle.loop_lang.specs.Actions.{acts_all}
 use Rattle.loop_lang.specs.Memory.{Memory, stored}
 use Rattle.loop_lang.proofs.Following.{acts_all-append}
 use Rattle.loop_lang.proofs.Statements.{acts-seq, acts-for, acts-if, acts-put, acts-add_to, acts-zero}
@@ -37,7 +39,9 @@ use Rattle.lowering.specs.Frames.{Placing, under, placed}
 use Rattle.lowering.specs.Scatter.{add_at, scatter}
 use Rattle.lowering.proofs.Algebra.{Words, length-scatter, Words-scatter, scatter_turns, scatter-rows}
 use Rattle.lowering.proofs.RowOrder.{place, placed-is, place_lt, place_inj, flat_from_zeros}
-use Rattle.lowering.proofs.Does.{Area, In, Out, Part, region, part, buffer_of, base, length-read, read_agree, Target, Leaves, Kept, Kept-trans, leaves_kept, target_after, target_kept, target_more, part_kept, Does, does_then, does_nothing, does_tick, does_turns, does_before, does_fewer, does_last, does_store, does_zero}
+use Rattle.lowering.proofs.Does.{Area, In, Out, Part, region, part, buffer_of, base, length-read, read_agree, Target, Leaves, Kept, Kept-trans, leaves_kept}
+use Rattle.lowering.proofs.Does.{target_after, target_kept, target_more, part_kept, Does, does_then, does_nothing, does_tick, does_turns, does_before}
+use Rattle.lowering.proofs.Does.{does_fewer, does_last, does_store, does_zero}
 use Rattle.lowering.proofs.Calm.{Calm, calm_after}
 use Rattle.lowering.proofs.Clear.{zero_at, Clear, Injective, InRange, ClearFrom, clear_start, clear_row, clear_next}
 use Rattle.lowering_laws.specs.Marks.{Marks, is_marked, through_child}
@@ -75,7 +79,8 @@ loops_more n m (Before a ∷ fs) l h = loops_more n m fs l h
 -- one more loop changes nothing
 sends_more : (es s r : List ℕ) (j : ℕ) (fs : List Around) → LoopsBelow (length r) fs → sends es s (r ++ j ∷ []) fs ≡ sends es s r fs
 sends_more es s r j [] h = refl
-sends_more es s r j (Loop d ∷ fs) h = ap (λ x. under x (sends es s (r ++ j ∷ []) fs)) (get_or_append_left r (j ∷ []) 0 d h.0) ∙ ap (under (get_or r d 0)) (sends_more es s r j fs h.1)
+sends_more es s r j (Loop d ∷ fs) h = ap (λ x. under x (sends es s (r ++ j ∷ []) fs)) (get_or_append_left r (j ∷ []) 0 d h.0)
+    ∙ ap (under (get_or r d 0)) (sends_more es s r j fs h.1)
 sends_more es s r j (Swapped ∷ fs) h = ap swapped (sends_more es s r j fs h)
 sends_more es s r j (Joined m ∷ fs) h = ap (flattened (extent m s)) (sends_more es s r j fs h)
 sends_more es s r j (Tiled k ∷ fs) h = ap (spread k) (sends_more es s r j fs h)
@@ -83,14 +88,16 @@ sends_more es s r j (Later a ∷ fs) h = ap (shifted (extent a s)) (sends_more e
 sends_more es s r j (Without a ∷ fs) h = ap (dropped (extent a s)) (sends_more es s r j fs h)
 sends_more es s r j (Before m ∷ fs) h = ap (kept (extent m s)) (sends_more es s r j fs h)
 
-pub sends_fix : (es s r : List ℕ) (j d : ℕ) (fs : List Around) → length r ≡ d → LoopsBelow (length r) fs → sends es s (r ++ j ∷ []) (Loop d ∷ fs) ≡ under j (sends es s r fs)
+pub sends_fix : (es s r : List ℕ) (j d : ℕ) (fs : List Around) → length r ≡ d → LoopsBelow (length r) fs
+    → sends es s (r ++ j ∷ []) (Loop d ∷ fs) ≡ under j (sends es s r fs)
 sends_fix es s r j d fs e h = ap (λ x. under x (sends es s (r ++ j ∷ []) fs)) (get_or_at r j [] 0 d e) ∙ ap (under j) (sends_more es s r j fs h)
 
 acts-stored : (o : Mode) (b : Buf) (i : Iexp) (w : Wexp) (s r : List ℕ) → acts (stored_by o b i w) s r ≡ store o b (grow w s r) (reckon i s r)
 acts-stored Puts b i w s r = acts-put b i w s r
 acts-stored Adds b i w s r = acts-add_to b i w s r
 
-pub loop_acts : (n : Items) (marked : Bool) (p : Context) (body : List Stmt) (s r : List ℕ) (d : ℕ) → length r ≡ depth p → reckon (index_tree (length r) n) s r ≡ Value (pos d)
+pub loop_acts : (n : Items) (marked : Bool) (p : Context) (body : List Stmt) (s r : List ℕ) (d : ℕ) → length r ≡ depth p
+    → reckon (index_tree (length r) n) s r ≡ Value (pos d)
     → acts_all (loop_to n marked p body) s r ≡ then_follow (turns 0 d (λ j. acts_all body s (r ++ j ∷ []))) []
 loop_acts n marked p body s r d dep h =
     ap (λ l. then_follow l []) (acts-for (tree_at p n) marked (Seq body) s r)
@@ -98,10 +105,14 @@ loop_acts n marked p body s r d dep h =
     ∙ ap (λ v. then_follow (turns_below v (λ j. acts_all body s (r ++ j ∷ []))) []) (ap (λ l. reckon (index_tree l n) s r) (sym dep) ∙ h)
 
 -- turns that each add a tensor
-does_sums : (items : ℕ → List Action) (g : ℕ → Tensor) (ds : List ℕ) (f : Placing) (T : Area) (k : ℕ) (P : Memory → Type 0) → ((m : Memory) → P m → Words (part m T)) → (n i e : ℕ) → i + n ≡ e → ((j : ℕ) → HasShape ds (g j))
-    → ((j : ℕ) (m : Memory) → j < e → P m → Does (items j) T k m (scatter (g j) f (part m T)) × ((o : Memory) → Leaves T k m (scatter (g j) f (part m T)) o → P o))
-    → (m : Memory) → P m → (h : ℕ → Tensor) → ((j : ℕ) → h j ≡ g (i + j)) → Does (turns i n items) T k m (scatter (total (zeros ds) (tabulate n h)) f (part m T))
-does_sums items g ds f T k P words zero i e s shape step m now h a = subst (Does [] T k m) (sym (scatter_zeros ds f (part m T) (words m now))) (does_nothing T k m)
+does_sums : (items : ℕ → List Action) (g : ℕ → Tensor) (ds : List ℕ) (f : Placing) (T : Area) (k : ℕ) (P : Memory → Type 0)
+    → ((m : Memory) → P m → Words (part m T)) → (n i e : ℕ) → i + n ≡ e → ((j : ℕ) → HasShape ds (g j))
+    → ((j : ℕ) (m : Memory) → j < e → P m → Does (items j) T k m (scatter (g j) f (part m T)) × ((o : Memory) → Leaves T k m (scatter (g j) f (part m T)) o
+    → P o))
+    → (m : Memory) → P m → (h : ℕ → Tensor) → ((j : ℕ) → h j ≡ g (i + j))
+    → Does (turns i n items) T k m (scatter (total (zeros ds) (tabulate n h)) f (part m T))
+does_sums items g ds f T k P words zero i e s shape step m now h a = subst (Does [] T k m) (sym (scatter_zeros ds f (part m T) (words m now)))
+    (does_nothing T k m)
 does_sums items g ds f T k P words (suc n) i e s shape step m now h a =
     let one = step i m (omega arith) now in
     let z : i + 0 ≡ i = omega arith in
@@ -109,12 +120,14 @@ does_sums items g ds f T k P words (suc n) i e s shape step m now h a =
     let hs : (j : ℕ) → HasShape ds (h j) = λ j. subst (HasShape ds) (sym (a j)) (shape (i + j)) in
     let rest = total (zeros ds) (tabulate n (λ j. h (suc j))) in
     let law : scatter (total (zeros ds) (tabulate (suc n) h)) f (part m T) ≡ scatter rest f (scatter (g i) f (part m T)) =
-    scatter_plus (h 0) rest ds f (part m T) (hs 0) (total_shape ds n (λ j. h (suc j)) (λ j. hs (suc j))) ∙ ap (λ u. scatter rest f (scatter u f (part m T))) first in
+    scatter_plus (h 0) rest ds f (part m T) (hs 0) (total_shape ds n (λ j. h (suc j)) (λ j. hs (suc j)))
+    ∙ ap (λ u. scatter rest f (scatter u f (part m T))) first in
     subst (Does (turns i (suc n) items) T k m) (sym law)
     (does_tick (then_follow (items i) (turns (i + 1) n items)) T k m _
     (does_then (items i) (turns (i + 1) n items) T k m _ _ one.0
     (λ o p. subst (λ v. Does (turns (i + 1) n items) T k o (scatter rest f v)) p.there
-    (does_sums items g ds f T k P words n (i + 1) e (omega arith) shape step o (one.1 o p) (λ j. h (suc j)) (λ j. let e : i + suc j ≡ i + 1 + j = omega arith in a (suc j) ∙ ap g e)))))
+    (does_sums items g ds f T k P words n (i + 1) e (omega arith) shape step o (one.1 o p) (λ j. h (suc j))
+    (λ j. let e : i + suc j ≡ i + 1 + j = omega arith in a (suc j) ∙ ap g e)))))
 
 calm_kept : (c T : Area) (k : ℕ) (m n : Memory) → Calm c T k → Kept k m n → part n c ≡ part m c
 calm_kept (In j) T k m n h p = ap (λ v. get_or v j []) p.inputs
@@ -170,14 +183,25 @@ module _ (s : List ℕ) (many len : ℕ) where
   abbrev pub Right : Term → Type 0
   Right e =
       (p : Context) (ms : Marks) (ar : List Area) (t : List Bound) (T : Area) (es r y : List ℕ) (f : Placing) (k : ℕ) (m : Memory)
-      → Stands p T es r f k → Owed e p t r y k → Injective (dims e s (extents_of t)) f → InRange (dims e s (extents_of t)) f (word_count es) → State p ar t T es k m
+      → Stands p T es r f k → Owed e p t r y k → Injective (dims e s (extents_of t)) f → InRange (dims e s (extents_of t)) f (word_count es)
+      → State p ar t T es k m
       → Clear p.mode (dims e s (extents_of t)) f (part m T) → Does (acts_all (loops_at e p ms) s r) T k m (scatter (den e s y t) f (part m T))
 
-  pub held_by : (T T' : Area) (k k' : ℕ) (m n : Memory) → ((a : Area) → Calm a T k → Calm a T' k' × (part n a ≡ part m a)) → (xs : List Site) (bs : List Buf) (ar : List Area) (t : List Bound) → AllHeld s xs bs ar t T k m → AllHeld s xs bs ar t T' k' n
+  pub held_by : (T T' : Area) (k k' : ℕ) (m n : Memory) → ((a : Area) → Calm a T k → Calm a T' k' × (part n a ≡ part m a))
+      → (xs : List Site) (bs : List Buf) (ar : List Area) (t : List Bound) → AllHeld s xs bs ar t T k m → AllHeld s xs bs ar t T' k' n
   held_by T T' k k' m n g [] [] [] [] h = tt
   held_by T T' k k' m n g (x ∷ xs) (b ∷ bs) (a ∷ ar) (u ∷ t) h =
-      let c = g a h.0.calm in
-      (record { extents = h.0.extents; offset = h.0.offset; buffer = h.0.buffer; calm = c.0; words_are = c.1 ∙ h.0.words_are }, held_by T T' k k' m n g xs bs ar t h.1)
+      let c = g a h.0.calm in (
+        record {
+          extents = h.0.extents;
+          offset = h.0.offset;
+          buffer = h.0.buffer;
+          calm = c.0;
+          words_are = c.1
+              ∙ h.0.words_are;
+        },
+        held_by T T' k k' m n g xs bs ar t h.1,
+      )
   held_by T T' k k' m n g [] [] [] (u ∷ t) h = absurd h
   held_by T T' k k' m n g [] [] (a ∷ ar) t h = absurd h
   held_by T T' k k' m n g [] (b ∷ bs) ar t h = absurd h
@@ -185,7 +209,8 @@ module _ (s : List ℕ) (many len : ℕ) where
   held_by T T' k k' m n g (x ∷ xs) (b ∷ bs) [] t h = absurd h
   held_by T T' k k' m n g (x ∷ xs) (b ∷ bs) (a ∷ ar) [] h = absurd h
 
-  pub state_after : (p : Context) (ar : List Area) (t : List Bound) (T : Area) (es : List ℕ) (k : ℕ) (m n : Memory) (ws : List ℕ) → State p ar t T es k m → length ws ≡ length (part m T) → Words ws → Leaves T k m ws n → State p ar t T es k n
+  pub state_after : (p : Context) (ar : List Area) (t : List Bound) (T : Area) (es : List ℕ) (k : ℕ) (m n : Memory) (ws : List ℕ) → State p ar t T es k m
+      → length ws ≡ length (part m T) → Words ws → Leaves T k m ws n → State p ar t T es k n
   state_after p ar t T es k m n ws st h w l = record {
     target = target_after T k m n ws st.target l;
     long = ap length l.there ∙ h ∙ st.long;
@@ -199,7 +224,8 @@ module _ (s : List ℕ) (many len : ℕ) where
   }
 
   -- the same at a spot with the same tensors
-  pub same_state : (p q : Context) (ar : List Area) (t : List Bound) (T : Area) (es : List ℕ) (k : ℕ) (m : Memory) → p.place.sites ≡ q.place.sites → p.buffers ≡ q.buffers → State p ar t T es k m → State q ar t T es k m
+  pub same_state : (p q : Context) (ar : List Area) (t : List Bound) (T : Area) (es : List ℕ) (k : ℕ) (m : Memory) → p.place.sites ≡ q.place.sites
+      → p.buffers ≡ q.buffers → State p ar t T es k m → State q ar t T es k m
   same_state p q ar t T es k m a b st = record {
     target = st.target;
     long = st.long;
@@ -212,7 +238,8 @@ module _ (s : List ℕ) (many len : ℕ) where
     free = st.free;
   }
 
-  mixes : (o : Mode) (f : Placing) (p x : ℕ) (ws : List ℕ) → f [] ≡ Some p → Clear o [] f ws → x < 2 ^ 64 → stored o (get_or ws p 0) x ≡ (get_or ws p 0 + x) % 2 ^ 64
+  mixes : (o : Mode) (f : Placing) (p x : ℕ) (ws : List ℕ) → f [] ≡ Some p → Clear o [] f ws → x < 2 ^ 64
+      → stored o (get_or ws p 0) x ≡ (get_or ws p 0 + x) % 2 ^ 64
   mixes Adds f p x ws e h l = refl
   mixes Puts f p x ws e h l =
       let z : x ≡ get_or ws p 0 + x = omega (arith, h [] p tt e) in
@@ -236,11 +263,14 @@ module _ (s : List ℕ) (many len : ℕ) where
       ∙ ap (λ v. then_follow (store_at p.mode p.target c.tree v) []) at_place
       ∙ ap (λ v. Store p.mode v c.tree (pos (base T + q)) ∷ []) std.buffer in
       let leaves : set (part m T) q (stored p.mode (get_or (part m T) q 0) c.word) ≡ scatter u f (part m T) =
-      ap (set (part m T) q) (mixes p.mode f q c.word (part m T) at clear small) ∙ ap (λ o. add_at o c.word (part m T)) (sym at) ∙ ap (λ u. scatter u f (part m T)) (sym c.means) in
-      subst (λ zs. Does zs T k m (scatter u f (part m T))) (sym acts_are) (subst (Does (Store p.mode (buffer_of T) c.tree (pos (base T + q)) ∷ []) T k m) leaves one)
+      ap (set (part m T) q) (mixes p.mode f q c.word (part m T) at clear small) ∙ ap (λ o. add_at o c.word (part m T)) (sym at)
+      ∙ ap (λ u. scatter u f (part m T)) (sym c.means) in
+      subst (λ zs. Does zs T k m (scatter u f (part m T))) (sym acts_are)
+      (subst (Does (Store p.mode (buffer_of T) c.tree (pos (base T + q)) ∷ []) T k m) leaves one)
 
   leaf_right : (e : Term) (p : Context) (ar : List Area) (t : List Bound) (T : Area) (es r y : List ℕ) (f : Placing) (k : ℕ) (m : Memory)
-      → Stands p T es r f k → LeafOwes s e p.place r y (extents_of t) → ShapesFit e s (extents_of t) → LiteralsFit e → InRange (dims e s (extents_of t)) f (word_count es) → State p ar t T es k m
+      → Stands p T es r f k → LeafOwes s e p.place r y (extents_of t) → ShapesFit e s (extents_of t) → LiteralsFit e
+      → InRange (dims e s (extents_of t)) f (word_count es) → State p ar t T es k m
       → Clear p.mode (dims e s (extents_of t)) f (part m T) → Does (acts_all (leaf e p) s r) T k m (scatter (den e s y t) f (part m T))
   leaf_right e p ar t T es r y f k m std owes sf lit inside st clear =
       store_right (word_at e p) (den e s y t) p ar t T es r f k m std owes.0 (subst (λ d. InRange d f (word_count es)) owes.2 inside) st
@@ -251,28 +281,35 @@ module _ (s : List ℕ) (many len : ℕ) where
   lit_right w p ms ar t T es r y f k m std ow inj inside st clear = leaf_right (Lit w) p ar t T es r y f k m std ow.owes ow.shapes ow.literals inside st clear
 
   pub word_of_right : (x : Items) → Right (WordOf x)
-  word_of_right x p ms ar t T es r y f k m std ow inj inside st clear = leaf_right (WordOf x) p ar t T es r y f k m std ow.owes ow.shapes ow.literals inside st clear
+  word_of_right x p ms ar t T es r y f k m std ow inj inside st clear = leaf_right (WordOf x) p ar t T es r y f k m std ow.owes ow.shapes ow.literals inside st
+      clear
 
   pub sub_right : (a b : Term) → Right (sub a b)
-  sub_right a b p ms ar t T es r y f k m std ow inj inside st clear = leaf_right (sub a b) p ar t T es r y f k m std ow.owes ow.shapes ow.literals inside st clear
+  sub_right a b p ms ar t T es r y f k m std ow inj inside st clear = leaf_right (sub a b) p ar t T es r y f k m std ow.owes ow.shapes ow.literals inside st
+      clear
 
   pub mul_right : (a b : Term) → Right (mul a b)
-  mul_right a b p ms ar t T es r y f k m std ow inj inside st clear = leaf_right (mul a b) p ar t T es r y f k m std ow.owes ow.shapes ow.literals inside st clear
+  mul_right a b p ms ar t T es r y f k m std ow inj inside st clear = leaf_right (mul a b) p ar t T es r y f k m std ow.owes ow.shapes ow.literals inside st
+      clear
 
   pub turn_depth : (n : Items) (p : Context) (r : List ℕ) (j : ℕ) → length r ≡ depth p → length (r ++ j ∷ []) ≡ depth (into_gen n p)
   turn_depth n p r j h = omega (arith, length-append r (j ∷ []), h, binders-bound p.place.spot.path n)
 
   pub sum_right : (n : Items) (e : Term) → Right e → Right (sum n e)
   sum_right n e ih p ms ar t T es r y f k m std ow inj inside st clear =
-      subst (λ zs. Does zs T k m (scatter (den (sum n e) s y t) f (part m T))) (sym (loop_acts n false p (loops_at e (into_sum n p) (through_child 0 ms)) s r (extent n s) std.depth_is ow.owes.0))
+      subst (λ zs. Does zs T k m (scatter (den (sum n e) s y t) f (part m T)))
+      (sym (loop_acts n false p (loops_at e (into_sum n p) (through_child 0 ms)) s r (extent n s) std.depth_is ow.owes.0))
       (does_last (turns 0 (extent n s) items) T k m _
       (does_sums items (λ j. den e s (j ∷ y) t) (dims e s (extents_of t)) f T k (State p ar t T es k) (λ m h. h.word) (extent n s) 0 (extent n s) (omega arith)
-      (λ j. den_shape e s (j ∷ y) t ow.shapes st.shaped) step m st (λ j. den e s (j ∷ y) t) (λ j. let z : j ≡ 0 + j = omega arith in ap (λ i. den e s (i ∷ y) t) z)))
+      (λ j. den_shape e s (j ∷ y) t ow.shapes st.shaped) step m st (λ j. den e s (j ∷ y) t)
+      (λ j. let z : j ≡ 0 + j = omega arith in ap (λ i. den e s (i ∷ y) t) z)))
     where
       items : ℕ → List Action
       items j = acts_all (loops_at e (into_sum n p) (through_child 0 ms)) s (r ++ j ∷ [])
 
-      step : (j : ℕ) (m : Memory) → j < extent n s → State p ar t T es k m → Does (items j) T k m (scatter (den e s (j ∷ y) t) f (part m T)) × ((a : Memory) → Leaves T k m (scatter (den e s (j ∷ y) t) f (part m T)) a → State p ar t T es k a)
+      step : (j : ℕ) (m : Memory) → j < extent n s → State p ar t T es k m
+          → Does (items j) T k m (scatter (den e s (j ∷ y) t) f (part m T)) × ((a : Memory) → Leaves T k m (scatter (den e s (j ∷ y) t) f (part m T)) a
+          → State p ar t T es k a)
       step j m l h =
           let more : length r ≤ length (r ++ j ∷ []) = omega (arith, length-append r (j ∷ [])) in (
             ih (into_sum n p) (through_child 0 ms) ar t T es (r ++ j ∷ []) (j ∷ y) f k m
@@ -285,15 +322,19 @@ module _ (s : List ℕ) (many len : ℕ) where
                   extents = std.extents;
                   free = std.free;
                 })
-                (record { owes = ow.owes.1 j l; shapes = ow.shapes; literals = ow.literals; room = ow.room }) inj inside (same_state p (into_sum n p) ar t T es k m refl refl h) tt,
-            λ a q. state_after p ar t T es k m a _ h (length-scatter (den e s (j ∷ y) t) f (part m T)) (Words-scatter (den e s (j ∷ y) t) f (part m T) h.word) q,
+                (record { owes = ow.owes.1 j l; shapes = ow.shapes; literals = ow.literals; room = ow.room }) inj inside
+                (same_state p (into_sum n p) ar t T es k m refl refl h) tt,
+            λ a q. state_after p ar t T es k m a _ h (length-scatter (den e s (j ∷ y) t) f (part m T))
+                (Words-scatter (den e s (j ∷ y) t) f (part m T) h.word) q,
           )
 
   pub gen_right : (n : Items) (e : Term) → Right e → Right (gen n e)
   gen_right n e ih p ms ar t T es r y f k m std ow inj inside st clear =
-      subst (λ zs. Does zs T k m (scatter (den (gen n e) s y t) f (part m T))) (sym (loop_acts n (is_marked ms) p (loops_at e (into_gen n p) (through_child 0 ms)) s r d std.depth_is ow.owes.0))
+      subst (λ zs. Does zs T k m (scatter (den (gen n e) s y t) f (part m T)))
+      (sym (loop_acts n (is_marked ms) p (loops_at e (into_gen n p) (through_child 0 ms)) s r d std.depth_is ow.owes.0))
       (does_last (turns 0 d items) T k m _
-      (subst (Does (turns 0 d items) T k m) (sym rows_are) (does_turns items g f T k P d 0 d (omega arith) step m (st, clear_start p.mode d ds f (part m T) clear))))
+      (subst (Does (turns 0 d items) T k m) (sym rows_are) (does_turns items g f T k P d 0 d (omega arith) step m
+      (st, clear_start p.mode d ds f (part m T) clear))))
     where
       d : ℕ
       d = extent n s
@@ -311,9 +352,11 @@ module _ (s : List ℕ) (many len : ℕ) where
       P j m = State p ar t T es k m × ClearFrom p.mode d ds f j (part m T)
 
       rows_are : scatter (den (gen n e) s y t) f (part m T) ≡ scatter_turns 0 d g f (part m T)
-      rows_are = scatter-rows d 0 g g f f (part m T) (λ j. let z : j ≡ 0 + j = omega arith in ap g z) (λ j ix. let z : j ≡ 0 + j = omega arith in ap (λ i. f (i ∷ ix)) z)
+      rows_are = scatter-rows d 0 g g f f (part m T) (λ j. let z : j ≡ 0 + j = omega arith in ap g z)
+          (λ j ix. let z : j ≡ 0 + j = omega arith in ap (λ i. f (i ∷ ix)) z)
 
-      step : (j : ℕ) (m : Memory) → j < d → P j m → Does (items j) T k m (scatter (g j) (under j f) (part m T)) × ((a : Memory) → Leaves T k m (scatter (g j) (under j f) (part m T)) a → P (j + 1) a)
+      step : (j : ℕ) (m : Memory) → j < d → P j m → Does (items j) T k m (scatter (g j) (under j f) (part m T)) × ((a : Memory)
+          → Leaves T k m (scatter (g j) (under j f) (part m T)) a → P (j + 1) a)
       step j m l h =
           let long = length-append r (j ∷ []) in
           let more : length r ≤ length (r ++ j ∷ []) = omega (arith, long) in
@@ -340,7 +383,8 @@ module _ (s : List ℕ) (many len : ℕ) where
 
   pub guard_right : (c : Cond) (e : Term) → Right e → Right (guard c e)
   guard_right c e ih p ms ar t T es r y f k m std ow inj inside st clear =
-      subst (λ zs. Does zs T k m (scatter (den (guard c e) s y t) f (part m T))) (sym acts_are) (does_last (if_holds (verdict (all_hold s y c.all)) items) T k m _ (go (all_hold s y c.all) refl))
+      subst (λ zs. Does zs T k m (scatter (den (guard c e) s y t) f (part m T))) (sym acts_are)
+      (does_last (if_holds (verdict (all_hold s y c.all)) items) T k m _ (go (all_hold s y c.all) refl))
     where
       items : List Action
       items = acts_all (loops_at e (into_guard c p) (through_child 0 ms)) s r
@@ -351,7 +395,8 @@ module _ (s : List ℕ) (many len : ℕ) where
           ∙ ap (λ l. then_follow (if_holds (tested (tests_of (depth p) c.all) s r) l) []) (acts-seq (loops_at e (into_guard c p) (through_child 0 ms)) s r)
           ∙ ap (λ v. then_follow (if_holds v items) []) (ap (λ n. tested (tests_of n c.all) s r) (sym std.depth_is) ∙ tests-hold s r y c.all ow.owes.0)
 
-      go : (b : Bool) → all_hold s y c.all ≡ b → Does (if_holds (verdict b) items) T k m (scatter (if b then den e s y t else zeros (dims e s (extents_of t))) f (part m T))
+      go : (b : Bool) → all_hold s y c.all ≡ b → Does (if_holds (verdict b) items) T k m
+          (scatter (if b then den e s y t else zeros (dims e s (extents_of t))) f (part m T))
       go true h = does_tick items T k m _
           (ih (into_guard c p) (through_child 0 ms) ar t T es r y f k m
           (record {
@@ -363,13 +408,17 @@ module _ (s : List ℕ) (many len : ℕ) where
             extents = std.extents;
             free = std.free;
           })
-          (record { owes = ow.owes.1 h; shapes = ow.shapes; literals = ow.literals; room = ow.room }) inj inside (same_state p (into_guard c p) ar t T es k m refl refl st) clear)
+          (record { owes = ow.owes.1 h; shapes = ow.shapes; literals = ow.literals; room = ow.room }) inj inside
+          (same_state p (into_guard c p) ar t T es k m refl refl st) clear)
       go false h = does_tick [] T k m _ (subst (Does [] T k m) (sym (scatter_zeros (dims e s (extents_of t)) f (part m T) st.word)) (does_nothing T k m))
 
-  adding_right : (a b : Term) → Right a → Right b → (p : Context) (ms : Marks) (ar : List Area) (t : List Bound) (T : Area) (es r y : List ℕ) (f : Placing) (k : ℕ) (m : Memory)
-      → Stands p T es r f k → Owes s a p.place r y (extents_of t) × Owes s b p.place r y (extents_of t) → ShapesFit (add a b) s (extents_of t) → LiteralsFit (add a b) → Room s many len (add a b) (extents_of t) k
+  adding_right : (a b : Term) → Right a → Right b → (p : Context) (ms : Marks) (ar : List Area) (t : List Bound) (T : Area) (es r y : List ℕ) (f : Placing)
+      (k : ℕ) (m : Memory)
+      → Stands p T es r f k → Owes s a p.place r y (extents_of t) × Owes s b p.place r y (extents_of t) → ShapesFit (add a b) s (extents_of t)
+      → LiteralsFit (add a b) → Room s many len (add a b) (extents_of t) k
       → Injective (dims a s (extents_of t)) f → InRange (dims a s (extents_of t)) f (word_count es) → State p ar t T es k m
-      → Does (acts_all (loops_at a (adding p) (through_child 0 ms) ++ loops_at b (adding p) (through_child 1 ms)) s r) T k m (scatter (den (add a b) s y t) f (part m T))
+      → Does (acts_all (loops_at a (adding p) (through_child 0 ms) ++ loops_at b (adding p) (through_child 1 ms)) s r) T k m
+      (scatter (den (add a b) s y t) f (part m T))
   adding_right a b ia ib p ms ar t T es r y f k m std owes sf lit room inj inside st =
       let ds = extents_of t in
       let la = loops_at a (adding p) (through_child 0 ms) in
@@ -388,18 +437,21 @@ module _ (s : List ℕ) (many len : ℕ) where
       subst (Does (acts_all (la ++ lb) s r) T k m) (sym (scatter_plus (den a s y t) (den b s y t) (dims a s ds) f (part m T) ha hb))
       (subst (λ zs. Does zs T k m (scatter (den b s y t) f (scatter (den a s y t) f (part m T)))) (sym (acts_all-append la lb s r))
       (does_then (acts_all la s r) (acts_all lb s r) T k m (scatter (den a s y t) f (part m T)) _
-      (ia (adding p) (through_child 0 ms) ar t T es r y f k m stand (record { owes = owes.0; shapes = sf.1; literals = lit.0; room = room.0 }) inj inside (same_state p (adding p) ar t T es k m refl refl st) tt)
+      (ia (adding p) (through_child 0 ms) ar t T es r y f k m stand (record { owes = owes.0; shapes = sf.1; literals = lit.0; room = room.0 }) inj inside
+      (same_state p (adding p) ar t T es k m refl refl st) tt)
       (λ c l.
       let sc = state_after p ar t T es k m c _ st (length-scatter (den a s y t) f (part m T)) (Words-scatter (den a s y t) f (part m T) st.word) l in
       subst (λ w. Does (acts_all lb s r) T k c (scatter (den b s y t) f w)) l.there
       (ib (adding p) (through_child 1 ms) ar t T es r y f k c stand (record { owes = owes.1; shapes = sf.2; literals = lit.1; room = room.1 })
-      (subst (λ d. Injective d f) (sym sf.0) inj) (subst (λ d. InRange d f (word_count es)) (sym sf.0) inside) (same_state p (adding p) ar t T es k c refl refl sc) tt))))
+      (subst (λ d. Injective d f) (sym sf.0) inj) (subst (λ d. InRange d f (word_count es)) (sym sf.0) inside)
+      (same_state p (adding p) ar t T es k c refl refl sc) tt))))
 
   pub add_right : (a b : Term) → Right a → Right b → Right (add a b)
   add_right a b ia ib p ms ar t T es r y f k m std ow inj inside st clear = go (adds_words a b (shapes p.place)) ow.owes
     where
       go : (c : Bool) → either c (LeafOwes s (add a b) p.place r y (extents_of t)) (Owes s a p.place r y (extents_of t) × Owes s b p.place r y (extents_of t))
-          → Does (acts_all (if c then leaf (add a b) p else (loops_at a (adding p) (through_child 0 ms) ++ loops_at b (adding p) (through_child 1 ms))) s r) T k m (scatter (den (add a b) s y t) f (part m T))
+          → Does (acts_all (if c then leaf (add a b) p else (loops_at a (adding p) (through_child 0 ms) ++ loops_at b (adding p) (through_child 1 ms))) s r) T k
+          m (scatter (den (add a b) s y t) f (part m T))
       go true owes = leaf_right (add a b) p ar t T es r y f k m std owes ow.shapes ow.literals inside st clear
       go false owes = adding_right a b ia ib p ms ar t T es r y f k m std owes ow.shapes ow.literals ow.room inj inside st
 
@@ -461,8 +513,10 @@ module _ (s : List ℕ) (many len : ℕ) where
       acts_are : acts_all (loops_at (let_in a b) p ms) s r ≡ then_follow (zeroed scratch (pos k) 0 n) (then_follow defs bodies)
       acts_are =
           ap (λ l. then_follow l (acts_all (la ++ lb) s r)) (acts-zero scratch (tree_at p p.place.free) (tree_at p (length_form (shape_at a p.place))) s r)
-          ∙ ap (λ v. then_follow (fill scratch v (reckon (tree_at p (length_form (shape_at a p.place))) s r)) (acts_all (la ++ lb) s r)) (ap (λ l. reckon (index_tree l p.place.free) s r) (sym std.depth_is) ∙ lo.0 ∙ ap (λ q. Value (pos q)) std.free)
-          ∙ ap (λ v. then_follow (fill scratch (Value (pos k)) v) (acts_all (la ++ lb) s r)) (ap (λ l. reckon (index_tree l (length_form (shape_at a p.place))) s r) (sym std.depth_is) ∙ lo.1)
+          ∙ ap (λ v. then_follow (fill scratch v (reckon (tree_at p (length_form (shape_at a p.place))) s r)) (acts_all (la ++ lb) s r))
+          (ap (λ l. reckon (index_tree l p.place.free) s r) (sym std.depth_is) ∙ lo.0 ∙ ap (λ q. Value (pos q)) std.free)
+          ∙ ap (λ v. then_follow (fill scratch (Value (pos k)) v) (acts_all (la ++ lb) s r))
+          (ap (λ l. reckon (index_tree l (length_form (shape_at a p.place))) s r) (sym std.depth_is) ∙ lo.1)
           ∙ ap (then_follow (zeroed scratch (pos k) 0 n)) (acts_all-append la lb s r)
 
       tar : Target A k' m
@@ -493,7 +547,8 @@ module _ (s : List ℕ) (many len : ℕ) where
           (ia (into_definition a p) (through_child 0 ms) ar t A (dims a s ds) r y (placed 0 (dims a s ds)) k' c
           (record { depth_is = std.depth_is; sends_is = refl; below = tt; buffer = refl; offset = std.free; extents = lo.2; free = free_is })
           (record { owes = ow.owes.1; shapes = ow.shapes.0; literals = ow.literals.0; room = ow.room.2 })
-          (λ ix jx q v w g h. let e : Some (0 + place (dims a s ds) ix) ≡ Some (0 + place (dims a s ds) jx) = sym (placed-is 0 (dims a s ds) ix v) ∙ g ∙ sym h ∙ placed-is 0 (dims a s ds) jx w in
+          (λ ix jx q v w g h. let e : Some (0 + place (dims a s ds) ix) ≡ Some (0 + place (dims a s ds) jx) = sym (placed-is 0 (dims a s ds) ix v) ∙ g ∙ sym h
+          ∙ placed-is 0 (dims a s ds) jx w in
           let e' : 0 + place (dims a s ds) ix ≡ 0 + place (dims a s ds) jx = cc in place_inj (dims a s ds) ix jx v w (omega arith))
           (λ ix q v g. let e : Some (0 + place (dims a s ds) ix) ≡ Some q = sym (placed-is 0 (dims a s ds) ix v) ∙ g in
           let e' : 0 + place (dims a s ds) ix ≡ q = cc in omega (arith, place_lt (dims a s ds) ix v))

@@ -1,5 +1,6 @@
 -- The algebra of scattered tensors: sums, zeros, and rows.
-use Rattle.std.proofs.Common.{◌≡◌, ℕ, zero, suc, ◌+◌, ◌-◌, ◌*◌, ◌/◌, ◌%◌, ◌^◌, ◌<◌, ◌≤◌, List, [], ◌∷◌, ◌++◌, length, get_or, set, take, drop, if◌then◌else◌, Option, Some, None, refl, sym, ap, ◌∙◌, subst, ⊎_elim, arith, get_or-set_same, get_or-set_other}
+use Rattle.std.proofs.Common.{◌≡◌, ℕ, zero, suc, ◌+◌, ◌-◌, ◌*◌, ◌/◌, ◌%◌, ◌^◌, ◌<◌, ◌≤◌, List, [], ◌∷◌, ◌++◌, length, get_or, set, take, drop, if◌then◌else◌}
+use Rattle.std.proofs.Common.{Option, Some, None, refl, sym, ap, ◌∙◌, subst, ⊎_elim, arith, get_or-set_same, get_or-set_other}
 use Rattle.std.proofs.lemmas.List.{set-set, set_comm, set_past, set-get_or}
 use Rattle.std.proofs.lemmas.Bool.{cases_lt, cases_eq, lt-ltb, le-ltb}
 use Rattle.std.proofs.Math.Nat.{mod-add-mod, add-mod-mod, mod-eq_of_lt}
@@ -49,12 +50,14 @@ add_at_comm (Some p) (Some q) v w ws =
 add_at_scatter : (t : Tensor) (f : Placing) (o : Option ℕ) (w : ℕ) (ws : List ℕ) → scatter t f (add_at o w ws) ≡ add_at o w (scatter t f ws)
 add_at_scatter (Word v) f o w ws = add_at_comm (f []) o v w ws
 add_at_scatter End f o w ws = refl
-add_at_scatter (Row a rest) f o w ws = ap (scatter rest (later f)) (add_at_scatter a (under 0 f) o w ws) ∙ add_at_scatter rest (later f) o w (scatter a (under 0 f) ws)
+add_at_scatter (Row a rest) f o w ws = ap (scatter rest (later f)) (add_at_scatter a (under 0 f) o w ws)
+    ∙ add_at_scatter rest (later f) o w (scatter a (under 0 f) ws)
 
 pub scatter_comm : (t u : Tensor) (f g : Placing) (ws : List ℕ) → scatter t f (scatter u g ws) ≡ scatter u g (scatter t f ws)
 scatter_comm (Word v) u f g ws = sym (add_at_scatter u g (f []) v ws)
 scatter_comm End u f g ws = refl
-scatter_comm (Row a rest) u f g ws = ap (scatter rest (later f)) (scatter_comm a u (under 0 f) g ws) ∙ scatter_comm rest u (later f) g (scatter a (under 0 f) ws)
+scatter_comm (Row a rest) u f g ws = ap (scatter rest (later f)) (scatter_comm a u (under 0 f) g ws)
+    ∙ scatter_comm rest u (later f) g (scatter a (under 0 f) ws)
 
 add_at_sum : (o : Option ℕ) (a b : ℕ) (ws : List ℕ) → add_at o ((a + b) % 2 ^ 64) ws ≡ add_at o b (add_at o a ws)
 add_at_sum None a b ws = refl
@@ -68,7 +71,8 @@ add_at_sum (Some p) a b ws =
     (cases_lt p (length ws))
 
 -- the words of a sum are added one after another
-pub scatter_plus : (t u : Tensor) (ds : List ℕ) (f : Placing) (ws : List ℕ) → HasShape ds t → HasShape ds u → scatter (plus_places t u) f ws ≡ scatter u f (scatter t f ws)
+pub scatter_plus : (t u : Tensor) (ds : List ℕ) (f : Placing) (ws : List ℕ) → HasShape ds t → HasShape ds u
+    → scatter (plus_places t u) f ws ≡ scatter u f (scatter t f ws)
 scatter_plus (Word a) (Word b) ds f ws h k = add_at_sum (f []) a b ws
 scatter_plus (Word a) End [] f ws h k = absurd k
 scatter_plus (Word a) End (zero ∷ ds) f ws h k = absurd h
@@ -116,7 +120,8 @@ abbrev pub scatter_list : List Tensor → ℕ → Placing → List ℕ → List 
 scatter_list [] i f ws = ws
 scatter_list (t ∷ ts) i f ws = scatter_list ts (i + 1) f (scatter t (under i f) ws)
 
-list_from : (ts : List Tensor) (i : ℕ) (f k : Placing) (ws : List ℕ) → ((j : ℕ) (ix : List ℕ) → k (j ∷ ix) ≡ f ((i + j) ∷ ix)) → scatter (from_rows ts) k ws ≡ scatter_list ts i f ws
+list_from : (ts : List Tensor) (i : ℕ) (f k : Placing) (ws : List ℕ) → ((j : ℕ) (ix : List ℕ) → k (j ∷ ix) ≡ f ((i + j) ∷ ix))
+    → scatter (from_rows ts) k ws ≡ scatter_list ts i f ws
 list_from [] i f k ws b = refl
 list_from (t ∷ ts) i f k ws b =
     let z : i + 0 ≡ i = omega arith in
@@ -139,7 +144,8 @@ rows_again P (suc n) (Row a rest) h = ap (Row a) (rows_again P n rest h.1)
 pub scatter_each : (n : ℕ) (ds : List ℕ) (t : Tensor) (f : Placing) (ws : List ℕ) → HasShape (n ∷ ds) t → scatter t f ws ≡ scatter_list (rows_of t) 0 f ws
 scatter_each n ds t f ws h = ap (λ u. scatter u f ws) (rows_again (HasShape ds) n t h) ∙ scatter_rows (rows_of t) f ws
 
-scatter_append : (ts us : List Tensor) (i j : ℕ) (f : Placing) (ws : List ℕ) → i + length ts ≡ j → scatter_list (ts ++ us) i f ws ≡ scatter_list us j f (scatter_list ts i f ws)
+scatter_append : (ts us : List Tensor) (i j : ℕ) (f : Placing) (ws : List ℕ) → i + length ts ≡ j
+    → scatter_list (ts ++ us) i f ws ≡ scatter_list us j f (scatter_list ts i f ws)
 scatter_append [] us i j f ws e = let e' : i ≡ j = omega arith in ap (λ k. scatter_list us k f ws) e'
 scatter_append (t ∷ ts) us i j f ws e = scatter_append ts us (i + 1) j f (scatter t (under i f) ws) (omega arith)
 
@@ -150,7 +156,8 @@ scatter_shifted (t ∷ ts) n i j f ws e =
     ∙ scatter_shifted ts n (i + 1) (j + 1) f (scatter t (under j f) ws) (omega arith)
 
 -- concat: the right part is moved by the left extent
-pub scatter_concat : (n m : ℕ) (ds : List ℕ) (x y : Tensor) (f : Placing) (ws : List ℕ) → HasShape (n ∷ ds) x → HasShape (m ∷ ds) y → scatter (from_rows (rows_of x ++ rows_of y)) f ws ≡ scatter y (shifted n f) (scatter x f ws)
+pub scatter_concat : (n m : ℕ) (ds : List ℕ) (x y : Tensor) (f : Placing) (ws : List ℕ) → HasShape (n ∷ ds) x → HasShape (m ∷ ds) y
+    → scatter (from_rows (rows_of x ++ rows_of y)) f ws ≡ scatter y (shifted n f) (scatter x f ws)
 scatter_concat n m ds x y f ws h k =
     let c = rows_many (HasShape ds) n x h in
     scatter_rows (rows_of x ++ rows_of y) f ws
@@ -168,7 +175,8 @@ length-copies zero t = refl
 length-copies (suc a) t = ap (λ n. suc n) (length-copies a t)
 
 -- zero rows behind
-pub scatter_pad_r : (a n : ℕ) (ds : List ℕ) (x : Tensor) (f : Placing) (ws : List ℕ) → Words ws → HasShape (n ∷ ds) x → scatter (from_rows (rows_of x ++ copies a (zeros ds))) f ws ≡ scatter x f ws
+pub scatter_pad_r : (a n : ℕ) (ds : List ℕ) (x : Tensor) (f : Placing) (ws : List ℕ) → Words ws → HasShape (n ∷ ds) x
+    → scatter (from_rows (rows_of x ++ copies a (zeros ds))) f ws ≡ scatter x f ws
 scatter_pad_r a n ds x f ws w h =
     let c = rows_many (HasShape ds) n x h in
     scatter_rows (rows_of x ++ copies a (zeros ds)) f ws
@@ -177,7 +185,8 @@ scatter_pad_r a n ds x f ws w h =
     ∙ zero_rows a n ds f (scatter x f ws) (Words-scatter x f ws w)
 
 -- zero rows before: moved up
-pub scatter_pad_l : (a n : ℕ) (ds : List ℕ) (x : Tensor) (f : Placing) (ws : List ℕ) → Words ws → HasShape (n ∷ ds) x → scatter (from_rows (copies a (zeros ds) ++ rows_of x)) f ws ≡ scatter x (shifted a f) ws
+pub scatter_pad_l : (a n : ℕ) (ds : List ℕ) (x : Tensor) (f : Placing) (ws : List ℕ) → Words ws → HasShape (n ∷ ds) x
+    → scatter (from_rows (copies a (zeros ds) ++ rows_of x)) f ws ≡ scatter x (shifted a f) ws
 scatter_pad_l a n ds x f ws w h =
     let c = length-copies a (zeros ds) in
     scatter_rows (copies a (zeros ds) ++ rows_of x) f ws
@@ -220,7 +229,8 @@ first_rows (t ∷ ts) (suc n) m i f ws e =
     ∙ ap (λ g. scatter_list ts (i + 1) (kept m f) (scatter t g ws)) (sym (kept_row m i f (omega arith)))
 
 -- the first rows alone are kept
-pub scatter_first : (a n : ℕ) (ds : List ℕ) (x : Tensor) (f : Placing) (ws : List ℕ) → HasShape (n ∷ ds) x → scatter (from_rows (take (length (rows_of x) - a) (rows_of x))) f ws ≡ scatter x (kept (n - a) f) ws
+pub scatter_first : (a n : ℕ) (ds : List ℕ) (x : Tensor) (f : Placing) (ws : List ℕ) → HasShape (n ∷ ds) x
+    → scatter (from_rows (take (length (rows_of x) - a) (rows_of x))) f ws ≡ scatter x (kept (n - a) f) ws
 scatter_first a n ds x f ws h =
     let c = rows_many (HasShape ds) n x h in
     scatter_rows (take (length (rows_of x) - a) (rows_of x)) f ws
@@ -239,9 +249,11 @@ dropped_no_row a i f h = ext (λ ix. ap (λ b. if b then None else f ((i - a) �
 dropped_rest : (ts : List Tensor) (a i j : ℕ) (f : Placing) (ws : List ℕ) → a + j ≡ i → scatter_list ts j f ws ≡ scatter_list ts i (dropped a f) ws
 dropped_rest [] a i j f ws e = refl
 dropped_rest (t ∷ ts) a i j f ws e =
-    dropped_rest ts a (i + 1) (j + 1) f (scatter t (under j f) ws) (omega arith) ∙ ap (λ g. scatter_list ts (i + 1) (dropped a f) (scatter t g ws)) (sym (dropped_row a i j f e))
+    dropped_rest ts a (i + 1) (j + 1) f (scatter t (under j f) ws) (omega arith)
+    ∙ ap (λ g. scatter_list ts (i + 1) (dropped a f) (scatter t g ws)) (sym (dropped_row a i j f e))
 
-later_rows : (ts : List Tensor) (n a i j : ℕ) (f : Placing) (ws : List ℕ) → i + n ≡ a → j ≡ 0 → scatter_list (drop n ts) j f ws ≡ scatter_list ts i (dropped a f) ws
+later_rows : (ts : List Tensor) (n a i j : ℕ) (f : Placing) (ws : List ℕ) → i + n ≡ a → j ≡ 0
+    → scatter_list (drop n ts) j f ws ≡ scatter_list ts i (dropped a f) ws
 later_rows ts zero a i j f ws e z = dropped_rest ts a i j f ws (omega arith)
 later_rows [] (suc n) a i j f ws e z = refl
 later_rows (t ∷ ts) (suc n) a i j f ws e z =
@@ -249,16 +261,20 @@ later_rows (t ∷ ts) (suc n) a i j f ws e z =
     ∙ ap (scatter_list ts (i + 1) (dropped a f)) (sym (ap (λ g. scatter t g ws) (dropped_no_row a i f (omega arith)) ∙ off t ws))
 
 -- the first rows are dropped
-pub scatter_later : (a n : ℕ) (ds : List ℕ) (x : Tensor) (f : Placing) (ws : List ℕ) → HasShape (n ∷ ds) x → scatter (from_rows (drop a (rows_of x))) f ws ≡ scatter x (dropped a f) ws
+pub scatter_later : (a n : ℕ) (ds : List ℕ) (x : Tensor) (f : Placing) (ws : List ℕ) → HasShape (n ∷ ds) x
+    → scatter (from_rows (drop a (rows_of x))) f ws ≡ scatter x (dropped a f) ws
 scatter_later a n ds x f ws h =
     scatter_rows (drop a (rows_of x)) f ws ∙ later_rows (rows_of x) a a 0 0 f ws (omega arith) refl ∙ sym (scatter_each n ds x (dropped a f) ws h)
 
-flatten_row : (us : List Tensor) (m x y j : ℕ) (f : Placing) (ws : List ℕ) → x * m + y ≡ j → scatter_list us y (under x (flattened m f)) ws ≡ scatter_list us j f ws
+flatten_row : (us : List Tensor) (m x y j : ℕ) (f : Placing) (ws : List ℕ) → x * m + y ≡ j
+    → scatter_list us y (under x (flattened m f)) ws ≡ scatter_list us j f ws
 flatten_row [] m x y j f ws e = refl
 flatten_row (u ∷ us) m x y j f ws e =
-    ap (λ k. scatter_list us (y + 1) (under x (flattened m f)) (scatter u (λ ix. f (k ∷ ix)) ws)) e ∙ flatten_row us m x (y + 1) (j + 1) f (scatter u (under j f) ws) (omega arith)
+    ap (λ k. scatter_list us (y + 1) (under x (flattened m f)) (scatter u (λ ix. f (k ∷ ix)) ws)) e
+    ∙ flatten_row us m x (y + 1) (j + 1) f (scatter u (under j f) ws) (omega arith)
 
-flat_list : (n m : ℕ) (ds : List ℕ) (x : Tensor) (i j : ℕ) (f : Placing) (ws : List ℕ) → HasRows (HasShape (m ∷ ds)) n x → i * m ≡ j → scatter_list (rows_of x) i (flattened m f) ws ≡ scatter_list (joined (rows_of x)) j f ws
+flat_list : (n m : ℕ) (ds : List ℕ) (x : Tensor) (i j : ℕ) (f : Placing) (ws : List ℕ) → HasRows (HasShape (m ∷ ds)) n x → i * m ≡ j
+    → scatter_list (rows_of x) i (flattened m f) ws ≡ scatter_list (joined (rows_of x)) j f ws
 flat_list zero m ds (Word w) i j f ws h e = absurd h
 flat_list zero m ds End i j f ws h e = refl
 flat_list zero m ds (Row a rest) i j f ws h e = absurd h
@@ -273,16 +289,19 @@ flat_list (suc n) m ds (Row a rest) i j f ws h e =
     ∙ sym (scatter_append (rows_of a) (joined (rows_of rest)) j (j + m) f ws (omega arith))
 
 -- the first two indices make one
-pub scatter_flatten : (n m : ℕ) (ds : List ℕ) (x : Tensor) (f : Placing) (ws : List ℕ) → HasShape (n ∷ m ∷ ds) x → scatter (from_rows (joined (rows_of x))) f ws ≡ scatter x (flattened m f) ws
+pub scatter_flatten : (n m : ℕ) (ds : List ℕ) (x : Tensor) (f : Placing) (ws : List ℕ) → HasShape (n ∷ m ∷ ds) x
+    → scatter (from_rows (joined (rows_of x))) f ws ≡ scatter x (flattened m f) ws
 scatter_flatten n m ds x f ws h =
     let z : 0 * m ≡ 0 = omega arith in
     scatter_rows (joined (rows_of x)) f ws ∙ sym (flat_list n m ds x 0 0 f ws h z) ∙ sym (scatter_each n (m ∷ ds) x (flattened m f) ws h)
 
 zero_places : (n y : ℕ) (ds : List ℕ) (f : Placing) (ws : List ℕ) → Words ws → scatter_list (tabulate n (λ i. get_or [] i (zeros ds))) y f ws ≡ ws
 zero_places zero y ds f ws h = refl
-zero_places (suc n) y ds f ws h = ap (scatter_list (tabulate n (λ i. get_or [] i (zeros ds))) (y + 1) f) (scatter_zeros ds (under y f) ws h) ∙ zero_places n (y + 1) ds f ws h
+zero_places (suc n) y ds f ws h = ap (scatter_list (tabulate n (λ i. get_or [] i (zeros ds))) (y + 1) f) (scatter_zeros ds (under y f) ws h)
+    ∙ zero_places n (y + 1) ds f ws h
 
-chunk : (n k c y x : ℕ) (ts : List Tensor) (ds : List ℕ) (f : Placing) (ws : List ℕ) → Words ws → y + n ≤ k → c * k + y ≡ x → scatter_list (tabulate n (λ i. get_or ts i (zeros ds))) y (under c f) ws ≡ scatter_list (take n ts) x (spread k f) ws
+chunk : (n k c y x : ℕ) (ts : List Tensor) (ds : List ℕ) (f : Placing) (ws : List ℕ) → Words ws → y + n ≤ k → c * k + y ≡ x
+    → scatter_list (tabulate n (λ i. get_or ts i (zeros ds))) y (under c f) ws ≡ scatter_list (take n ts) x (spread k f) ws
 chunk zero k c y x ts ds f ws h l e = refl
 chunk (suc n) k c y x [] ds f ws h l e = zero_places (suc n) y ds (under c f) ws h
 chunk (suc n) k c y x (t ∷ ts) ds f ws h l e =
@@ -293,7 +312,8 @@ chunk (suc n) k c y x (t ∷ ts) ds f ws h l e =
     ap (λ g. scatter_list (tabulate n (λ i. get_or ts i (zeros ds))) (y + 1) (under c f) (scatter t g ws)) same
     ∙ chunk n k c (y + 1) (x + 1) ts ds f (scatter t (under x (spread k f)) ws) (Words-scatter t (under x (spread k f)) ws h) (omega arith) (omega arith)
 
-two_parts : (k i j : ℕ) (ts : List Tensor) (f : Placing) (ws : List ℕ) → i + k ≡ j → scatter_list (drop k ts) j f (scatter_list (take k ts) i f ws) ≡ scatter_list ts i f ws
+two_parts : (k i j : ℕ) (ts : List Tensor) (f : Placing) (ws : List ℕ) → i + k ≡ j
+    → scatter_list (drop k ts) j f (scatter_list (take k ts) i f ws) ≡ scatter_list ts i f ws
 two_parts zero i j ts f ws e = let e' : j ≡ i = omega arith in ap (λ n. scatter_list ts n f ws) e'
 two_parts (suc k) i j [] f ws e = refl
 two_parts (suc k) i j (t ∷ ts) f ws e = two_parts k (i + 1) j ts f (scatter t (under i f) ws) (omega arith)
@@ -307,20 +327,25 @@ words_list : (ts : List Tensor) (i : ℕ) (f : Placing) (ws : List ℕ) → Word
 words_list [] i f ws h = h
 words_list (t ∷ ts) i f ws h = words_list ts (i + 1) f (scatter t (under i f) ws) (Words-scatter t (under i f) ws h)
 
-chunk_list : (q k c i : ℕ) (ts : List Tensor) (ds : List ℕ) (f : Placing) (ws : List ℕ) → Words ws → length ts ≤ q * k → c * k ≡ i → scatter_list (chunks q k (zeros ds) ts) c f ws ≡ scatter_list ts i (spread k f) ws
+chunk_list : (q k c i : ℕ) (ts : List Tensor) (ds : List ℕ) (f : Placing) (ws : List ℕ) → Words ws → length ts ≤ q * k → c * k ≡ i
+    → scatter_list (chunks q k (zeros ds) ts) c f ws ≡ scatter_list ts i (spread k f) ws
 chunk_list zero k c i [] ds f ws h l e = refl
 chunk_list zero k c i (t ∷ ts) ds f ws h l e = absurd (omega (arith, l))
 chunk_list (suc q) k c i ts ds f ws h l e =
     let z : c * k + 0 ≡ i = omega arith in
     let y : (c + 1) * k ≡ i + k = grind arith in
     let m : suc q * k ≡ k + q * k = grind arith in
-    ap (scatter_list (chunks q k (zeros ds) (drop k ts)) (c + 1) f) (scatter_rows (tabulate k (λ i. get_or ts i (zeros ds))) (under c f) ws ∙ chunk k k c 0 i ts ds f ws h (omega arith) z)
-    ∙ chunk_list q k (c + 1) (i + k) (drop k ts) ds f (scatter_list (take k ts) i (spread k f) ws) (words_list (take k ts) i (spread k f) ws h) (omega (arith, length_drop k ts, l, m)) y
+    ap (scatter_list (chunks q k (zeros ds) (drop k ts)) (c + 1) f) (scatter_rows (tabulate k (λ i. get_or ts i (zeros ds))) (under c f) ws
+    ∙ chunk k k c 0 i ts ds f ws h (omega arith) z)
+    ∙ chunk_list q k (c + 1) (i + k) (drop k ts) ds f (scatter_list (take k ts) i (spread k f) ws) (words_list (take k ts) i (spread k f) ws h)
+    (omega (arith, length_drop k ts, l, m)) y
     ∙ two_parts k i (i + k) ts (spread k f) ws refl
 
 -- the first index makes two
-pub scatter_split : (n q k : ℕ) (ds : List ℕ) (x : Tensor) (f : Placing) (ws : List ℕ) → Words ws → HasShape (n ∷ ds) x → n ≤ q * k → scatter (from_rows (chunks q k (zeros ds) (rows_of x))) f ws ≡ scatter x (spread k f) ws
+pub scatter_split : (n q k : ℕ) (ds : List ℕ) (x : Tensor) (f : Placing) (ws : List ℕ) → Words ws → HasShape (n ∷ ds) x → n ≤ q * k
+    → scatter (from_rows (chunks q k (zeros ds) (rows_of x))) f ws ≡ scatter x (spread k f) ws
 scatter_split n q k ds x f ws w h l =
     let c = rows_many (HasShape ds) n x h in
     let z : 0 * k ≡ 0 = omega arith in
-    scatter_rows (chunks q k (zeros ds) (rows_of x)) f ws ∙ chunk_list q k 0 0 (rows_of x) ds f ws w (omega (arith, c, l)) z ∙ sym (scatter_each n ds x (spread k f) ws h)
+    scatter_rows (chunks q k (zeros ds) (rows_of x)) f ws ∙ chunk_list q k 0 0 (rows_of x) ds f ws w (omega (arith, c, l)) z
+    ∙ sym (scatter_each n ds x (spread k f) ws h)

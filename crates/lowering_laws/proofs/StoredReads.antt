@@ -1,8 +1,8 @@
 -- The loops of a read that is stored: one for each of its extents, and a full read inside.
-use Rattle.std.proofs.Common.{◌≡◌, ℕ, zero, suc, ◌+◌, ◌<◌, ◌≤◌, true, false, List, [], ◌∷◌, ◌++◌, length, get_or, Option, Some, None, pos, refl, sym, ap, ◌∙◌, subst, arith, length-append, append_assoc}
+use Rattle.std.proofs.Common.{◌≡◌, ℕ, zero, suc, ◌+◌, ◌<◌, ◌≤◌, false, List, [], ◌∷◌, ◌++◌, length, get_or, Option, Some, None, pos, refl, sym, ap, ◌∙◌}
+use Rattle.std.proofs.Common.{subst, arith, length-append, append_assoc}
 use Rattle.std.proofs.lemmas.List.{append-nil}
 use Rattle.affine_index.specs.Form.{var_form}
-use Rattle.affine_index.specs.Normal.{is_ordered}
 use Rattle.affine_index.specs.Put.{moved, shifted}
 use Rattle.affine_index.specs.Value.{items_value}
 use Rattle.affine_index.specs.declared.form.Items.{Items}
@@ -32,9 +32,8 @@ use Rattle.lowering.specs.Frames.{Placing, under}
 use Rattle.lowering.specs.Scatter.{scatter}
 use Rattle.lowering.proofs.Algebra.{length-scatter, Words-scatter, scatter_turns, scatter-rows}
 use Rattle.lowering.proofs.RowOrder.{rows_many, row_has, At}
-use Rattle.lowering.proofs.Does.{Area, part, region, Leaves, Does, does_last, does_turns}
+use Rattle.lowering.proofs.Does.{Area, part, Leaves, Does, does_last, does_turns}
 use Rattle.lowering.proofs.Clear.{Clear, Injective, InRange, ClearFrom, clear_start, clear_row, clear_next}
-use Rattle.lowering_laws.specs.Marks.{Marks}
 use Rattle.lowering_laws.specs.Contexts.{Context, depth, into_gen}
 use Rattle.lowering_laws.specs.Lowered.{loaded, full_read, full_read_if}
 use Rattle.lowering_laws.specs.Owes.{AllOrdered, VarsThere, FullReadOwes, FullReadOwesIf}
@@ -66,7 +65,8 @@ abbrev Reads : List ℕ → Read → List ℕ → Tensor → Tensor → Type 0
 Reads s d y v u = (ix js : List ℕ) (w : ℕ) → Values s d.indices y ix → At v (ix ++ js) w → At u js w
 
 -- the values of indices with one more, in a turn
-deeper_values : (s : List ℕ) (xs : List Items) (j : ℕ) (y ix : List ℕ) → AllOrdered xs → Values s (each_shifted xs ++ var_form 0 ∷ []) (j ∷ y) ix → (kx : List ℕ) × (ix ≡ kx ++ j ∷ []) × Values s xs y kx
+deeper_values : (s : List ℕ) (xs : List Items) (j : ℕ) (y ix : List ℕ) → AllOrdered xs → Values s (each_shifted xs ++ var_form 0 ∷ []) (j ∷ y) ix
+    → (kx : List ℕ) × (ix ≡ kx ++ j ∷ []) × Values s xs y kx
 deeper_values s [] j y [] o v = absurd v
 deeper_values s [] j y (i ∷ []) o v =
     let e : pos j ≡ pos i = sym (value-of_atom s (j ∷ y) (Var 0) ∙ value-Var s (j ∷ y) 0) ∙ v.0 in
@@ -80,7 +80,8 @@ deeper_values s (x ∷ xs) j y (i ∷ ix) o v =
     (i ∷ rest.0, ap (λ k. i ∷ k) rest.1, (sym e ∙ v.0, rest.2))
 
 -- so a row is the part at one index more
-reads_row : (s : List ℕ) (d : Read) (j : ℕ) (y : List ℕ) (v u : Tensor) → AllOrdered d.indices → Reads s d y v u → Reads s (one_deeper d) (j ∷ y) v (get_or (rows_of u) j End)
+reads_row : (s : List ℕ) (d : Read) (j : ℕ) (y : List ℕ) (v u : Tensor) → AllOrdered d.indices → Reads s d y v u
+    → Reads s (one_deeper d) (j ∷ y) v (get_or (rows_of u) j End)
 reads_row s d j y v u o h ix js w vs a =
     let sp = deeper_values s d.indices j y ix o vs in
     (h sp.0 (j ∷ js) w sp.2 (subst (λ z. At v z w) (ap (λ z. z ++ js) sp.1 ∙ append_assoc sp.0 (j ∷ []) js) a)).1
@@ -91,8 +92,10 @@ module _ (s : List ℕ) (many len : ℕ) where
   FullRight ns =
       (d : Read) (p : Context) (ar : List Area) (t : List Bound) (T : Area) (es r y : List ℕ) (f : Placing) (k : ℕ) (m : Memory) (u : Tensor)
       → Stands s many len p T es r f k → FullReadOwes s ns d p.place r y → AllOrdered d.indices → d.var < length (extents_of t)
-      → Injective (extents_at ns s) f → InRange (extents_at ns s) f (word_count es) → State s many len p ar t T es k m → Clear p.mode (extents_at ns s) f (part m T)
-      → HasShape (extents_at ns s) u → HasWords u → Reads s d y (get_or t d.var no_bound).1 u → Does (acts_all (full_read ns d p) s r) T k m (scatter u f (part m T))
+      → Injective (extents_at ns s) f → InRange (extents_at ns s) f (word_count es) → State s many len p ar t T es k m
+      → Clear p.mode (extents_at ns s) f (part m T)
+      → HasShape (extents_at ns s) u → HasWords u → Reads s d y (get_or t d.var no_bound).1 u
+      → Does (acts_all (full_read ns d p) s r) T k m (scatter u f (part m T))
 
   word_right : FullRight []
   word_right d p ar t T es r y f k m u std owes ord there inj inside st clear shape words reads =
@@ -104,7 +107,8 @@ module _ (s : List ℕ) (many len : ℕ) where
   rows_right n ns ih d p ar t T es r y f k m u std owes ord there inj inside st clear shape words reads =
       subst (λ zs. Does zs T k m (scatter u f (part m T))) (sym (loop_acts n false p (full_read ns (one_deeper d) (into_gen n p)) s r e std.depth_is owes.0))
       (does_last (turns 0 e items) T k m _
-      (subst (Does (turns 0 e items) T k m) (sym rows_are) (does_turns items g f T k P e 0 e (omega arith) step m (st, clear_start p.mode e ds f (part m T) clear))))
+      (subst (Does (turns 0 e items) T k m) (sym rows_are) (does_turns items g f T k P e 0 e (omega arith) step m
+      (st, clear_start p.mode e ds f (part m T) clear))))
     where
       e : ℕ
       e = extent n s
@@ -126,9 +130,11 @@ module _ (s : List ℕ) (many len : ℕ) where
 
       rows_are : scatter u f (part m T) ≡ scatter_turns 0 e g f (part m T)
       rows_are = ap (λ v. scatter v f (part m T)) again
-          ∙ scatter-rows e 0 g g f f (part m T) (λ j. let z : j ≡ 0 + j = omega arith in ap g z) (λ j ix. let z : j ≡ 0 + j = omega arith in ap (λ i. f (i ∷ ix)) z)
+          ∙ scatter-rows e 0 g g f f (part m T) (λ j. let z : j ≡ 0 + j = omega arith in ap g z)
+          (λ j ix. let z : j ≡ 0 + j = omega arith in ap (λ i. f (i ∷ ix)) z)
 
-      step : (j : ℕ) (m : Memory) → j < e → P j m → Does (items j) T k m (scatter (g j) (under j f) (part m T)) × ((a : Memory) → Leaves T k m (scatter (g j) (under j f) (part m T)) a → P (j + 1) a)
+      step : (j : ℕ) (m : Memory) → j < e → P j m → Does (items j) T k m (scatter (g j) (under j f) (part m T)) × ((a : Memory)
+          → Leaves T k m (scatter (g j) (under j f) (part m T)) a → P (j + 1) a)
       step j m l h =
           let long = length-append r (j ∷ []) in
           let more : length r ≤ length (r ++ j ∷ []) = omega (arith, long) in
@@ -146,10 +152,12 @@ module _ (s : List ℕ) (many len : ℕ) where
                 })
                 (owes.1 j l) (deeper_ordered d.indices ord) there
                 (λ ix jx q w v c e. let same : j ∷ ix ≡ j ∷ jx = inj (j ∷ ix) (j ∷ jx) q (l, w) (l, v) c e in cc)
-                (λ ix q w c. inside (j ∷ ix) q (l, w) c) (same_state s many len p (into_gen n p) ar t T es k m refl refl h.0) (clear_row p.mode e ds f j (part m T) l h.1)
+                (λ ix q w c. inside (j ∷ ix) q (l, w) c) (same_state s many len p (into_gen n p) ar t T es k m refl refl h.0)
+                (clear_row p.mode e ds f j (part m T) l h.1)
                 row (row_words u j words) (reads_row s d j y (get_or t d.var no_bound).1 u ord reads),
             λ a q. (
-              state_after s many len p ar t T es k m a _ h.0 (length-scatter (g j) (under j f) (part m T)) (Words-scatter (g j) (under j f) (part m T) h.0.word) q,
+              state_after s many len p ar t T es k m a _ h.0 (length-scatter (g j) (under j f) (part m T))
+                  (Words-scatter (g j) (under j f) (part m T) h.0.word) q,
               subst (ClearFrom p.mode e ds f (j + 1)) (sym q.there) (clear_next p.mode e ds f j (part m T) (g j) inj row l h.1),
             ),
           )
@@ -159,14 +167,19 @@ module _ (s : List ℕ) (many len : ℕ) where
   full_right (n ∷ ns) = rows_right n ns (full_right ns)
 
   -- a term that is a read, in its own extents
-  read_right : (e : Term) (o : Option Read) → read_under e [] ≡ o → (p : Context) (ar : List Area) (t : List Bound) (T : Area) (es r y : List ℕ) (f : Placing) (k : ℕ) (m : Memory)
-      → Stands s many len p T es r f k → extents_at (shape_at e p.place) s ≡ dims e s (extents_of t) → VarsThere e (length (extents_of t)) → FullReadOwesIf s (shape_at e p.place) o p.place r y
-      → ShapesFit e s (extents_of t) → LiteralsFit e → Injective (dims e s (extents_of t)) f → InRange (dims e s (extents_of t)) f (word_count es) → State s many len p ar t T es k m
-      → Clear p.mode (dims e s (extents_of t)) f (part m T) → Does (acts_all (full_read_if (shape_at e p.place) o p) s r) T k m (scatter (den e s y t) f (part m T))
+  read_right : (e : Term) (o : Option Read) → read_under e [] ≡ o
+      → (p : Context) (ar : List Area) (t : List Bound) (T : Area) (es r y : List ℕ) (f : Placing) (k : ℕ) (m : Memory)
+      → Stands s many len p T es r f k → extents_at (shape_at e p.place) s ≡ dims e s (extents_of t) → VarsThere e (length (extents_of t))
+      → FullReadOwesIf s (shape_at e p.place) o p.place r y
+      → ShapesFit e s (extents_of t) → LiteralsFit e → Injective (dims e s (extents_of t)) f → InRange (dims e s (extents_of t)) f (word_count es)
+      → State s many len p ar t T es k m
+      → Clear p.mode (dims e s (extents_of t)) f (part m T) → Does (acts_all (full_read_if (shape_at e p.place) o p) s r) T k m
+      (scatter (den e s y t) f (part m T))
   read_right e None o p ar t T es r y f k m std same there owes sf lit inj inside st clear = absurd owes
   read_right e (Some d) o p ar t T es r y f k m std same there owes sf lit inj inside st clear =
       full_right (shape_at e p.place) d p ar t T es r y f k m (den e s y t) std owes.1 owes.0 (var_there s e [] d (length (extents_of t)) o there)
-      (subst (λ ds. Injective ds f) (sym same) inj) (subst (λ ds. InRange ds f (word_count es)) (sym same) inside) st (subst (λ ds. Clear p.mode ds f (part m T)) (sym same) clear)
+      (subst (λ ds. Injective ds f) (sym same) inj) (subst (λ ds. InRange ds f (word_count es)) (sym same) inside) st
+      (subst (λ ds. Clear p.mode ds f (part m T)) (sym same) clear)
       (subst (λ ds. HasShape ds (den e s y t)) (sym same) (den_shape e s y t sf st.shaped)) (den_words e s y t lit st.words)
       (λ ix js w vs a. let q = part_at s e [] d y t w ix js o vs a in none_before y q.0 js (den e s y t) w q.1 q.2)
     where

@@ -1,5 +1,6 @@
 -- The tree that a normal form prints as is well formed.
-use Rattle.std.proofs.Common.{◌≡◌, ℕ, suc, ◌-◌, ◌^◌, ◌<◌, List, [], ◌∷◌, map, Bool, true, false, ◌&&◌, ◌==◌, nat_lt, Option, Some, None, if◌then◌else◌, refl, sym, ap, ◌∙◌, subst, arith}
+use Rattle.std.proofs.Common.{◌≡◌, ℕ, ◌-◌, ◌^◌, ◌<◌, List, [], ◌∷◌, map, Bool, true, false, ◌&&◌, ◌==◌, nat_lt, Option, Some, None, if◌then◌else◌}
+use Rattle.std.proofs.Common.{sym, ap, ◌∙◌, subst, arith}
 use Rattle.std.specs.Prelude.{ℤ, pos, negsuc, unsigned_abs}
 use Rattle.std.proofs.lemmas.Bool.{and_from, and_parts, lt-ltb}
 use Rattle.affine_index.specs.Limited.{all_firsts, all_true, atom_scoped, items_scoped}
@@ -15,7 +16,8 @@ use Rattle.loop_lang.specs.declared.index.Iexp.{Iexp}
 use Rattle.loop_lang.specs.declared.index.Iexp.TheVariants as index
 use Rattle.loop_lang.specs.Form.{index_formed, is_divisor}
 use Rattle.loop_lang.proofs.IndexForms.{index_sum-is, index_difference-is, index_product-is, index_quotient-is}
-use Rattle.index_trees.specs.Tree.{Joins, with_factor, with_summand, or_number, leading, item_tree, plus_item, minus_item, plus_constant, minus_constant, is_negative, joined_atom, joined_atoms}
+use Rattle.index_trees.specs.Tree.{with_factor, with_summand, or_number, leading, item_tree, plus_item, minus_item, plus_constant, minus_constant}
+use Rattle.index_trees.specs.Tree.{is_negative, joined_atom, joined_atoms}
 use Rattle.index_trees.specs.Tree.{plus_terms, minus_terms, index_tree, tree_after, number_fits, atom_fits, form_fits, atoms_fit, terms_fit}
 use Rattle.index_trees.proofs.TreeLaws.{tree-Size, tree-Var, tree-Div, tree-Mul, tree-items, fits-Div, fits-Mul, fits-items}
 use Rattle.index_trees.proofs.TreeFits.{normal-fits}
@@ -65,7 +67,8 @@ module _ (sizes loops : ℕ) (in_length : Bool) where
   size_fine s f c p h = subst Fine (sym (tree-Size loops s p)) (factor_fine p (index.Size s) h (sym (scoped-Size sizes loops s) ∙ c))
 
   var_fine : (v : ℕ) → AtomFine (Var v)
-  var_fine v f c p h = subst Fine (sym (tree-Var loops v p)) (factor_fine p (index.Loop (loops - 1 - v)) h (lt-ltb (loops - 1 - v) loops (below v loops (sym (scoped-Var sizes loops v) ∙ c))))
+  var_fine v f c p h = subst Fine (sym (tree-Var loops v p)) (factor_fine p (index.Loop (loops - 1 - v)) h
+      (lt-ltb (loops - 1 - v) loops (below v loops (sym (scoped-Var sizes loops v) ∙ c))))
     where
       inside : (v n : ℕ) → nat_lt v n ≡ true → v < n
       inside v n e = grind arith
@@ -77,10 +80,12 @@ module _ (sizes loops : ℕ) (in_length : Bool) where
   div_fine i k g f c p h =
       let fs = and_parts (is_divisor k) (form_fits i) (sym (fits-Div i k) ∙ f) in
       let inner : Good (index_tree loops i) = g fs.1 (sym (scoped-Div sizes loops i k) ∙ c) in
-      let whole : Good (index.Div (index_tree loops i) k) = ap (λ t. index_formed sizes in_length t loops) (index_quotient-is (index_tree loops i) k) ∙ and_from _ _ inner fs.0 in
+      let whole : Good (index.Div (index_tree loops i) k) = ap (λ t. index_formed sizes in_length t loops) (index_quotient-is (index_tree loops i) k)
+      ∙ and_from _ _ inner fs.0 in
       subst Fine (sym (tree-Div loops i k p)) (factor_fine p (index.Div (index_tree loops i) k) h whole)
 
-  factors_fine : (fs : List Atom) → Each AtomFine fs → atoms_fit fs ≡ true → all_true (map (atom_scoped sizes loops) fs) ≡ true → (p : Option Iexp) → Fine p → Fine (joined_atoms loops fs p)
+  factors_fine : (fs : List Atom) → Each AtomFine fs → atoms_fit fs ≡ true → all_true (map (atom_scoped sizes loops) fs) ≡ true → (p : Option Iexp) → Fine p
+      → Fine (joined_atoms loops fs p)
   factors_fine [] e f c p h = h
   factors_fine (a ∷ as') e f c p h =
       let fs = and_parts (atom_fits a) (atoms_fit as') f in
@@ -138,12 +143,14 @@ module _ (sizes loops : ℕ) (in_length : Bool) where
       go false = h
 
   -- the tree of a form behind a first summand
-  after_good : (i : Items) → EachTerm AtomFine i.terms → form_fits i ≡ true → items_scoped sizes loops i ≡ true → (a : Option Iexp) → Fine a → Good (tree_after loops a i)
+  after_good : (i : Items) → EachTerm AtomFine i.terms → form_fits i ≡ true → items_scoped sizes loops i ≡ true → (a : Option Iexp) → Fine a
+      → Good (tree_after loops a i)
   after_good i e f c a h =
       let fs = and_parts (number_fits i.constant) (terms_fit i.terms) (sym (fits-items i) ∙ f) in
       let each = items_good i.terms e fs.1 (sym (scoped-items sizes loops i) ∙ c) in
       minus_last i.constant fs.0 _
-      (minus_good i.terms each _ (or_fine 0 (omega arith) (plus_constant i.constant (plus_terms loops i.terms a)) (plus_last i.constant fs.0 (plus_terms loops i.terms a) (plus_fine i.terms each a h))))
+      (minus_good i.terms each _ (or_fine 0 (omega arith) (plus_constant i.constant (plus_terms loops i.terms a))
+      (plus_last i.constant fs.0 (plus_terms loops i.terms a) (plus_fine i.terms each a h))))
 
   form_fine : (ts : List (Item Atom)) (c : ℤ) → EachTerm AtomFine ts → FormFine (record { terms = ts; constant = c })
   form_fine ts c e f s =
@@ -159,5 +166,6 @@ module _ (sizes loops : ℕ) (in_length : Bool) where
   tree_formed i n s = for_items AtomFine FormFine size_fine var_fine div_fine mul_fine form_fine i (normal-fits i n) s
 
   -- and behind a first summand
-  pub tree_after_formed : (i : Items) → is_normal i ≡ true → items_scoped sizes loops i ≡ true → (a : Option Iexp) → Fine a → index_formed sizes in_length (tree_after loops a i) loops ≡ true
+  pub tree_after_formed : (i : Items) → is_normal i ≡ true → items_scoped sizes loops i ≡ true → (a : Option Iexp) → Fine a
+      → index_formed sizes in_length (tree_after loops a i) loops ≡ true
   tree_after_formed i n s a h = after_good i (atom_fine i.terms) (normal-fits i n) s a h

@@ -1,5 +1,5 @@
 -- The tree that a normal form prints as has this normal form.
-use Rattle.std.proofs.Common.{◌≡◌, ℕ, ◌-◌, ◌<◌, ◌^◌, Bool, true, false, ◌&&◌, nat_le, if◌then◌else◌, Result, Ok, Err, refl, ap, sym, ◌∙◌, subst, arith}
+use Rattle.std.proofs.Common.{◌≡◌, ℕ, ◌-◌, ◌^◌, Bool, true, false, ◌&&◌, nat_le, if◌then◌else◌, Result, Ok, Err, refl, ap, ◌∙◌, arith}
 use Rattle.std.specs.Prelude.{ℤ, pos, negsuc}
 use Rattle.affine_index.specs.Form.{literal_form, size_form, var_form}
 use Rattle.affine_index.specs.Limited.{items_scoped}
@@ -12,7 +12,7 @@ use Rattle.loop_lang.specs.declared.index.Iexp.{Iexp, Lit, Size, Loop}
 use Rattle.loop_lang.specs.Syntax.{index_sum, index_difference, index_product, index_quotient, index_remainder, index_larger}
 use Rattle.reader_laws.specs.declared.fault.Fault.{Fault}
 use Rattle.reader_laws.specs.declared.fault.Fault.TheVariants.{NumberTooLarge, NotAffine, CoefficientTooLarge, IndexTooLong, BadSyntax}
-use Rattle.source_grammar.specs.Limits.{literal_of, multiplied, tested}
+use Rattle.source_grammar.specs.Limits.{multiplied, tested}
 use Rattle.index_trees.specs.Tree.{index_tree}
 use Rattle.atl_printer.specs.ReadTree.{if_divisor, number_form, on_both, on_one, read_tree}
 use Rattle.atl_printer.proofs.TreeReads.{tree-reads}
@@ -32,7 +32,8 @@ if_ok true r f x h = h
 if_ok false r f x h = absurd (cc)
 
 tested_same : (y x : Items) → tested y ≡ Ok x → y ≡ x
-tested_same y x h = same y x (if_ok (is_short y) (ok y) IndexTooLong x (if_ok (coefficients_fit y) (if is_short y then Ok y else Err IndexTooLong) CoefficientTooLarge x h))
+tested_same y x h = same y x (if_ok (is_short y) (ok y) IndexTooLong x
+    (if_ok (coefficients_fit y) (if is_short y then Ok y else Err IndexTooLong) CoefficientTooLarge x h))
 
 if_not : (b : Bool) (r : Reading) (f : Fault) (x : Items) → (if b then Err f else r) ≡ Ok x → r ≡ Ok x
 if_not true r f x h = absurd (cc)
@@ -45,7 +46,8 @@ number_same : (n : ℤ) (x : Items) → number_form n ≡ Ok x → literal_form 
 number_same (pos n) x h = same (literal_form (pos n)) x (if_ok (nat_le n (2 ^ 40)) (ok (literal_form (pos n))) NumberTooLarge x h)
 number_same (negsuc n) x h = absurd (cc)
 
-both_same : (f : Items → Items → Reading) (u v : Reading) (x : Items) → on_both f u v ≡ Ok x → (a : Items) × (b : Items) × (u ≡ Ok a) × (v ≡ Ok b) × (f a b ≡ Ok x)
+both_same : (f : Items → Items → Reading) (u v : Reading) (x : Items) → on_both f u v ≡ Ok x
+    → (a : Items) × (b : Items) × (u ≡ Ok a) × (v ≡ Ok b) × (f a b ≡ Ok x)
 both_same f (Ok a) (Ok b) x h = (a, b, refl, refl, h)
 both_same f (Ok a) (Err e) x h = absurd (cc)
 both_same f (Err e) v x h = absurd (cc)
@@ -64,8 +66,10 @@ module _ (loops : ℕ) where
   abbrev loops_read : ℕ → Reading
   loops_read d = Ok (var_form (loops - 1 - d))
 
-  two_forms : (f : Items → Items → Reading) (g : Items → Items → Items) (a b : Iexp) (x : Items) → ((p q z : Items) → f p q ≡ Ok z → g p q ≡ z) → ((y : Items) → read_tree sizes_read loops_read a ≡ Ok y → tree_form loops a ≡ y)
-      → ((y : Items) → read_tree sizes_read loops_read b ≡ Ok y → tree_form loops b ≡ y) → on_both f (read_tree sizes_read loops_read a) (read_tree sizes_read loops_read b) ≡ Ok x → g (tree_form loops a) (tree_form loops b) ≡ x
+  two_forms : (f : Items → Items → Reading) (g : Items → Items → Items) (a b : Iexp) (x : Items) → ((p q z : Items) → f p q ≡ Ok z → g p q ≡ z)
+      → ((y : Items) → read_tree sizes_read loops_read a ≡ Ok y → tree_form loops a ≡ y)
+      → ((y : Items) → read_tree sizes_read loops_read b ≡ Ok y → tree_form loops b ≡ y)
+      → on_both f (read_tree sizes_read loops_read a) (read_tree sizes_read loops_read b) ≡ Ok x → g (tree_form loops a) (tree_form loops b) ≡ x
   two_forms f g a b x law left right h =
       let p = both_same f (read_tree sizes_read loops_read a) (read_tree sizes_read loops_read b) x h in
       (λ i. g (left p.0 p.2 i) (right p.1 p.3 i)) ∙ law p.0 p.1 x p.4
@@ -89,4 +93,5 @@ module _ (loops : ℕ) where
   pub tree_back : (sizes : ℕ) (x : Items) → is_normal x ≡ true → items_scoped sizes loops x ≡ true → tree_form loops (index_tree loops x) ≡ x
   tree_back sizes x n s =
       read_form (index_tree loops x) x
-      (tree-reads sizes_read loops_read loops sizes (λ k l. refl) (λ v l. let e : loops - 1 - (loops - 1 - v) ≡ v = omega (arith, l) in ap (λ k. ok (var_form k)) e) x n s)
+      (tree-reads sizes_read loops_read loops sizes (λ k l. refl) (λ v l. let e : loops - 1 - (loops - 1 - v) ≡ v = omega (arith, l) in ap
+      (λ k. ok (var_form k)) e) x n s)

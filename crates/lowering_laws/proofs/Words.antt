@@ -1,5 +1,6 @@
 -- A word expression computes what its term denotes.
-use Rattle.std.proofs.Common.{◌≡◌, ℕ, zero, suc, ◌+◌, ◌-◌, ◌*◌, ◌%◌, ◌^◌, ◌<◌, ◌≤◌, Bool, true, false, if◌then◌else◌, List, [], ◌∷◌, ◌++◌, length, get_or, Option, Some, None, pos, refl, sym, ap, ◌∙◌, subst, arith}
+use Rattle.std.proofs.Common.{◌≡◌, ℕ, zero, suc, ◌+◌, ◌-◌, ◌*◌, ◌%◌, ◌^◌, ◌<◌, ◌≤◌, Bool, true, false, if◌then◌else◌, List, [], ◌∷◌, ◌++◌, length, get_or}
+use Rattle.std.proofs.Common.{Option, Some, None, pos, refl, sym, ap, ◌∙◌, subst, arith}
 use Rattle.std.proofs.lemmas.List.{append-nil}
 use Rattle.affine_index.specs.Condition.{all_hold}
 use Rattle.affine_index.specs.declared.form.Items.{Items}
@@ -74,7 +75,8 @@ module _ (s : List ℕ) where
     shaped : HasShape (get_or t q no_bound).0 (get_or t q no_bound).1
     words : HasWords (get_or t q no_bound).1
 
-  find : (xs : List Site) (bs : List Buf) (ar : List Area) (t : List Bound) (q : ℕ) (T : Area) (k : ℕ) (m : Memory) → q < length (extents_of t) → AllHeld xs bs ar t T k m → AllShaped t → AllWords t → Found_at xs bs t q T k m
+  find : (xs : List Site) (bs : List Buf) (ar : List Area) (t : List Bound) (q : ℕ) (T : Area) (k : ℕ) (m : Memory) → q < length (extents_of t)
+      → AllHeld xs bs ar t T k m → AllShaped t → AllWords t → Found_at xs bs t q T k m
   find [] [] [] [] q T k m l h g w = absurd (omega arith)
   find (x ∷ xs) (b ∷ bs) (a ∷ ar) (u ∷ t) zero T k m l h g w = record { area = a; one = h.0; shaped = g.0; words = w.0 }
   find (x ∷ xs) (b ∷ bs) (a ∷ ar) (u ∷ t) (suc q) T k m l h g w =
@@ -88,7 +90,8 @@ module _ (s : List ℕ) where
   find (x ∷ xs) (b ∷ bs) (a ∷ ar) [] q T k m l h g w = absurd h
 
   -- a read denotes the part of its tensor at the values of its indices
-  pub part_at : (e : Term) (xs : List Items) (d : Read) (y : List ℕ) (t : List Bound) (w : ℕ) (ix js : List ℕ) → read_under e xs ≡ Some d → Values s d.indices y ix
+  pub part_at : (e : Term) (xs : List Items) (d : Read) (y : List ℕ) (t : List Bound) (w : ℕ) (ix js : List ℕ) → read_under e xs ≡ Some d
+      → Values s d.indices y ix
       → At (get_or t d.var no_bound).1 (ix ++ js) w → (jx : List ℕ) × Values s xs y jx × At (den e s y t) (jx ++ js) w
   part_at (TVar q) xs d y t w ix js e v a =
       let same : record { var = q; indices = xs } ≡ d = cc in
@@ -98,8 +101,12 @@ module _ (s : List ℕ) where
       go : (jx : List ℕ) × Values s (x ∷ xs) y jx × At (den e s y t) (jx ++ js) w → (jx : List ℕ) × Values s xs y jx × At (den (index e x) s y t) (jx ++ js) w
       go ([], v, a) = absurd v
       go (i ∷ jx, v, a) =
-          let z = zeros (tail_of (dims e s (extents_of t))) in
-          (jx, v.1, subst (λ u. At u (jx ++ js) w) (get_or_any (rows_of (den e s y t)) i End z a.0 ∙ ap (λ j. row_at (rows_of (den e s y t)) j z) (sym v.0)) a.1)
+          let z = zeros (tail_of (dims e s (extents_of t))) in (
+            jx,
+            v.1,
+            subst (λ u. At u (jx ++ js) w) (get_or_any (rows_of (den e s y t)) i End z a.0
+                ∙ ap (λ j. row_at (rows_of (den e s y t)) j z) (sym v.0)) a.1,
+          )
   part_at (Lit c) xs d y t w ix js h v a = absurd (cc)
   part_at (WordOf x) xs d y t w ix js h v a = absurd (cc)
   part_at (gen n e) xs d y t w ix js h v a = absurd (cc)
@@ -149,7 +156,8 @@ module _ (s : List ℕ) where
     pub gives : word_of tree m ≡ Found word
 
   -- the load of a full read, of a tensor that has the word of the read
-  pub load_cell : (d : Read) (p : Context) (ar : List Area) (r y : List ℕ) (t : List Bound) (T : Area) (k : ℕ) (m : Memory) (u : Tensor) → length r ≡ depth p → ReadFits s d p.place r y → d.var < length (extents_of t)
+  pub load_cell : (d : Read) (p : Context) (ar : List Area) (r y : List ℕ) (t : List Bound) (T : Area) (k : ℕ) (m : Memory) (u : Tensor) → length r ≡ depth p
+      → ReadFits s d p.place r y → d.var < length (extents_of t)
       → AllHeld p.place.sites p.buffers ar t T k m → AllShaped t → AllWords t → k ≤ length (region m)
       → ((ix : List ℕ) (w : ℕ) → Values s d.indices y ix → At (get_or t d.var no_bound).1 ix w → u ≡ Word w) → Cell (loaded d p) u r m
   load_cell d p ar r y t T k m u dep h v g sh ws free means =
@@ -163,7 +171,8 @@ module _ (s : List ℕ) where
       let one = word_at_tuple ds ix x f.shaped f.words inside in
       let l : place ds ix < length (part m A) = omega (arith, place_lt ds ix inside, length-flat x ds f.shaped, ap length f.one.words_are) in
       let at : reckon (index_tree (depth p) (read_form d p.place)) s r ≡ Value (pos (base A + place ds ix)) =
-      ap (λ n. reckon (index_tree n (read_form d p.place)) s r) (sym dep) ∙ h.3.0 ∙ (λ i. Value (pos (f.one.offset i + row_order (f.one.extents i) ix))) ∙ ap (λ n. Value (pos (base A + n))) (order_is ds ix) in
+      ap (λ n. reckon (index_tree n (read_form d p.place)) s r) (sym dep) ∙ h.3.0 ∙ (λ i. Value (pos (f.one.offset i + row_order (f.one.extents i) ix)))
+      ∙ ap (λ n. Value (pos (base A + n))) (order_is ds ix) in
       record {
         word = get_or (flat x) (place ds ix) 0;
         means = means ix (get_or (flat x) (place ds ix) 0) h.1 one.0;
@@ -179,7 +188,8 @@ module _ (s : List ℕ) where
   no_indices y [] u w v a = a
   no_indices y (j ∷ jx) u w v a = absurd v
 
-  read_cell : (e : Term) (o : Option Read) (p : Context) (ar : List Area) (r y : List ℕ) (t : List Bound) (T : Area) (k : ℕ) (m : Memory) → read_under e [] ≡ o → length r ≡ depth p → ReadFitsIf s o p.place r y → VarsThere e (length (extents_of t))
+  read_cell : (e : Term) (o : Option Read) (p : Context) (ar : List Area) (r y : List ℕ) (t : List Bound) (T : Area) (k : ℕ) (m : Memory) → read_under e [] ≡ o
+      → length r ≡ depth p → ReadFitsIf s o p.place r y → VarsThere e (length (extents_of t))
       → AllHeld p.place.sites p.buffers ar t T k m → AllShaped t → AllWords t → k ≤ length (region m) → Cell (loaded_if o p) (den e s y t) r m
   read_cell e None p ar r y t T k m o dep h v g sh ws free = absurd h
   read_cell e (Some d) p ar r y t T k m o dep h v g sh ws free =
@@ -187,7 +197,9 @@ module _ (s : List ℕ) where
       (λ ix w vs a. let read = part_at e [] d y t w ix [] o vs (subst (λ jx. At (get_or t d.var no_bound).1 jx w) (sym (append-nil ix)) a) in
       no_indices y read.0 (den e s y t) w read.1 read.2)
 
-  both : (f : Tree → Tree → Tree) (g : ℕ → ℕ → ℕ) (u v w : Wexp) (x y : Tensor) (r : List ℕ) (m : Memory) → ((a b : Tree) → word_of (f a b) m ≡ word_of_two g (word_of a m) (word_of b m)) → grow w s r ≡ grown_of_two f (grow u s r) (grow v s r) → Cell u x r m → Cell v y r m → Cell w (by_places g x y) r m
+  both : (f : Tree → Tree → Tree) (g : ℕ → ℕ → ℕ) (u v w : Wexp) (x y : Tensor) (r : List ℕ) (m : Memory)
+      → ((a b : Tree) → word_of (f a b) m ≡ word_of_two g (word_of a m) (word_of b m)) → grow w s r ≡ grown_of_two f (grow u s r) (grow v s r) → Cell u x r m
+      → Cell v y r m → Cell w (by_places g x y) r m
   both f g u v w x y r m op grown a b = record {
     word = g a.word b.word;
     means = λ i. by_places g (a.means i) (b.means i);
@@ -196,35 +208,43 @@ module _ (s : List ℕ) where
     gives = op a.tree b.tree ∙ (λ i. word_of_two g (a.gives i) (b.gives i));
   }
 
-  choose : (c : Bool) (w a : Wexp) (u : Tensor) (ds : List ℕ) (r : List ℕ) (m : Memory) → ds ≡ [] → grow w s r ≡ chosen (verdict c) (grow a s r) (Whole (TreeWord 0)) → (c ≡ true → Cell a u r m) → Cell w (if c then u else zeros ds) r m
+  choose : (c : Bool) (w a : Wexp) (u : Tensor) (ds : List ℕ) (r : List ℕ) (m : Memory) → ds ≡ []
+      → grow w s r ≡ chosen (verdict c) (grow a s r) (Whole (TreeWord 0)) → (c ≡ true → Cell a u r m) → Cell w (if c then u else zeros ds) r m
   choose true w a u ds r m z g f = let x = f refl in record { word = x.word; means = x.means; tree = x.tree; grows = g ∙ x.grows; gives = x.gives }
   choose false w a u ds r m z g f = record { word = 0; means = ap zeros z; tree = TreeWord 0; grows = g; gives = refl }
 
-  pub cell : (e : Term) (p : Context) (ar : List Area) (r y : List ℕ) (t : List Bound) (T : Area) (k : ℕ) (m : Memory) → length r ≡ depth p → WordFits s e p.place r y → ShapesFit e s (extents_of t) → dims e s (extents_of t) ≡ [] → VarsThere e (length (extents_of t))
+  pub cell : (e : Term) (p : Context) (ar : List Area) (r y : List ℕ) (t : List Bound) (T : Area) (k : ℕ) (m : Memory) → length r ≡ depth p
+      → WordFits s e p.place r y → ShapesFit e s (extents_of t) → dims e s (extents_of t) ≡ [] → VarsThere e (length (extents_of t))
       → AllHeld p.place.sites p.buffers ar t T k m → AllShaped t → AllWords t → k ≤ length (region m) → Cell (word_at e p) (den e s y t) r m
   cell (Lit w) p ar r y t T k m dep h sf z v g sh ws free = record { word = w; means = refl; tree = TreeWord w; grows = refl; gives = refl }
   cell (WordOf x) p ar r y t T k m dep h sf z v g sh ws free = record {
     word = word_of_index (items_value s y x);
     means = refl;
     tree = TreeWord (word_of_index (items_value s y x));
-    grows = ap (λ n. grown_from (reckon (index_tree n x) s r) (λ z. TreeWord (word_of_index z))) (sym dep) ∙ ap (λ v. grown_from v (λ z. TreeWord (word_of_index z))) h.0;
+    grows = ap (λ n. grown_from (reckon (index_tree n x) s r) (λ z. TreeWord (word_of_index z))) (sym dep)
+        ∙ ap (λ v. grown_from v (λ z. TreeWord (word_of_index z))) h.0;
     gives = refl;
   }
   cell (TVar q) p ar r y t T k m dep h sf z v g sh ws free = read_cell (TVar q) (read_under (TVar q) []) p ar r y t T k m refl dep h v g sh ws free
   cell (index e x) p ar r y t T k m dep h sf z v g sh ws free = read_cell (index e x) (read_under (index e x) []) p ar r y t T k m refl dep h v g sh ws free
   cell (guard c e) p ar r y t T k m dep h sf z v g sh ws free =
-      let tests : tested (tests_of (depth p) c.all) s r ≡ verdict (all_hold s y c.all) = ap (λ n. tested (tests_of n c.all) s r) (sym dep) ∙ tests-hold s r y c.all h.0 in
+      let tests : tested (tests_of (depth p) c.all) s r ≡ verdict (all_hold s y c.all) = ap (λ n. tested (tests_of n c.all) s r) (sym dep)
+      ∙ tests-hold s r y c.all h.0 in
       choose (all_hold s y c.all) (word_at (guard c e) p) (word_at e (into_guard c p)) (den e s y t) (dims e s (extents_of t)) r m z
-      (ap (λ w. grow w s r) (word_choice-is (tests_of (depth p) c.all) (word_at e (into_guard c p)) (word.Lit 0)) ∙ ap (λ v. chosen v (grow (word_at e (into_guard c p)) s r) (Whole (TreeWord 0))) tests)
+      (ap (λ w. grow w s r) (word_choice-is (tests_of (depth p) c.all) (word_at e (into_guard c p)) (word.Lit 0))
+      ∙ ap (λ v. chosen v (grow (word_at e (into_guard c p)) s r) (Whole (TreeWord 0))) tests)
       (λ holds. cell e (into_guard c p) ar r y t T k m (dep ∙ sym (binders-holds p.place.spot.path c)) (h.1 holds) sf z v g sh ws free)
   cell (add a b) p ar r y t T k m dep h sf z v g sh ws free =
-      both Sum (λ a b. (a + b) % 2 ^ 64) (word_at a p) (word_at b p) (word_at (add a b) p) _ _ r m (λ a b. refl) (ap (λ w. grow w s r) (word_sum-is (word_at a p) (word_at b p)))
+      both Sum (λ a b. (a + b) % 2 ^ 64) (word_at a p) (word_at b p) (word_at (add a b) p) _ _ r m (λ a b. refl)
+      (ap (λ w. grow w s r) (word_sum-is (word_at a p) (word_at b p)))
       (cell a p ar r y t T k m dep h.0 sf.1 z v.0 g sh ws free) (cell b p ar r y t T k m dep h.1 sf.2 (sf.0 ∙ z) v.1 g sh ws free)
   cell (sub a b) p ar r y t T k m dep h sf z v g sh ws free =
-      both Difference (λ a b. (a + (2 ^ 64 - b)) % 2 ^ 64) (word_at a p) (word_at b p) (word_at (sub a b) p) _ _ r m (λ a b. refl) (ap (λ w. grow w s r) (word_difference-is (word_at a p) (word_at b p)))
+      both Difference (λ a b. (a + (2 ^ 64 - b)) % 2 ^ 64) (word_at a p) (word_at b p) (word_at (sub a b) p) _ _ r m (λ a b. refl)
+      (ap (λ w. grow w s r) (word_difference-is (word_at a p) (word_at b p)))
       (cell a p ar r y t T k m dep h.0 sf.1 z v.0 g sh ws free) (cell b p ar r y t T k m dep h.1 sf.2 (sf.0 ∙ z) v.1 g sh ws free)
   cell (mul a b) p ar r y t T k m dep h sf z v g sh ws free =
-      both Product (λ a b. (a * b) % 2 ^ 64) (word_at a p) (word_at b p) (word_at (mul a b) p) _ _ r m (λ a b. refl) (ap (λ w. grow w s r) (word_product-is (word_at a p) (word_at b p)))
+      both Product (λ a b. (a * b) % 2 ^ 64) (word_at a p) (word_at b p) (word_at (mul a b) p) _ _ r m (λ a b. refl)
+      (ap (λ w. grow w s r) (word_product-is (word_at a p) (word_at b p)))
       (cell a p ar r y t T k m dep h.0 sf.1 sf.0.0 v.0 g sh ws free) (cell b p ar r y t T k m dep h.1 sf.2 sf.0.1 v.1 g sh ws free)
   cell (gen n e) p ar r y t T k m dep h sf z v g sh ws free = absurd h
   cell (sum n e) p ar r y t T k m dep h sf z v g sh ws free = absurd h

@@ -30,7 +30,8 @@ use Rattle.region_plan.specs.Length.{length_tree}
 use Rattle.region_plan.specs.Needed.{module_needed, no_words}
 use Rattle.final_rules.specs.Rules.{any_let, output_extents, output_place}
 use Rattle.lowering_laws.specs.Marks.{Marks, output_marks, through_child, is_marked}
-use Rattle.lowering_laws.specs.Contexts.{Context, buffer_at, depth, tree_at, into_gen, into_sum, into_guard, adding, region, into_definition, into_body, onto_right, under_frame, into_flatten, into_truncr}
+use Rattle.lowering_laws.specs.Contexts.{Context, buffer_at, depth, tree_at, into_gen, into_sum, into_guard, adding, region, into_definition, into_body}
+use Rattle.lowering_laws.specs.Contexts.{onto_right, under_frame, into_flatten, into_truncr}
 
 -- the load of a full read, at its place
 abbrev pub loaded : Read → Context → Wexp

@@ -29,13 +29,15 @@ use Rattle.loop_lang.specs.declared.stmt.Stmt.TheOpen.{Stmt-F}
 use Rattle.loop_lang.specs.declared.stmt.Stmt.TheFolds.{fold-Stmt}
 use Rattle.loop_lang.specs.declared.stmt.Prog.{Prog}
 use Rattle.loop_lang.specs.Actions.{Mode, Puts, Adds}
-use Rattle.loop_lang.specs.Syntax.{index_sum, index_difference, index_product, index_quotient, index_remainder, index_larger, word_sum, word_difference, word_product, word_choice}
+use Rattle.loop_lang.specs.Syntax.{index_sum, index_difference, index_product, index_quotient, index_remainder, index_larger, word_sum, word_difference}
+use Rattle.loop_lang.specs.Syntax.{word_product, word_choice}
 use Rattle.final_rules.specs.declared.read.Read.{Read}
 use Rattle.final_rules.specs.Form.{read_under, one_deeper, adds_words}
 use Rattle.final_rules.specs.declared.spot.Around.TheVariants.{Swapped, Tiled, Later, Without}
 use Rattle.final_rules.specs.Places.{shapes, shape_at}
 use Rattle.lowering_laws.specs.Marks.{Marks, output_marks, through_child, is_marked}
-use Rattle.lowering_laws.specs.Contexts.{Context, buffer_at, depth, into_gen, into_sum, into_guard, adding, into_definition, into_body, onto_right, under_frame, into_flatten, into_truncr}
+use Rattle.lowering_laws.specs.Contexts.{Context, buffer_at, depth, into_gen, into_sum, into_guard, adding, into_definition, into_body, onto_right, under_frame}
+use Rattle.lowering_laws.specs.Contexts.{into_flatten, into_truncr}
 use Rattle.lowering_laws.specs.Lowered.{output_spot}
 
 -- a buffer without the number of a scratch buffer
