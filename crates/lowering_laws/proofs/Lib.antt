@@ -1,12 +1,16 @@
 pub mod Accepting
-pub mod Goods
+pub mod Apart
+pub mod FormedLoops
+pub mod FormedWords
 pub mod Going
+pub mod Goods
 pub mod Joined
 pub mod Lying
 pub mod NestLaws
 pub mod Outputs
 pub mod Owing
 pub mod PrintedBack
+pub mod PrintedHeld
 pub mod Reshaped
 pub mod Right
 pub mod Rooms
@@ -18,5 +22,6 @@ pub mod Transposed
 pub mod TreeFormed
 pub mod TreeForms
 pub mod Turning
+pub mod WellFormed
 pub mod Whole
 pub mod Words

@@ -11,19 +11,20 @@ use Rattle.region_plan.specs.Ranges.{LiesApart}
 use Rattle.final_rules.specs.Rules.{has_let, let_step}
 use Rattle.lowering_laws.specs.Owes.{Room}
 
-module _ (s : List ℕ) (many l len : ℕ) (long : 0 < many → l ≤ len) where
+module _ (many : ℕ) where
   -- where there is a let, there is a region
   abbrev pub HasRegion : Term → Type 0
   HasRegion e = has_let e ≡ true → 0 < many
 
-  region-left : (a b : Term) (c : Bool) → (c ≡ true → 0 < many) → c ≡ (has_let a || has_let b) → HasRegion a
+  pub region-left : (a b : Term) (c : Bool) → (c ≡ true → 0 < many) → c ≡ (has_let a || has_let b) → HasRegion a
   region-left a b c h e q = h (e ∙ or_left (has_let a) (has_let b) q)
 
-  region-right : (a b : Term) (c : Bool) → (c ≡ true → 0 < many) → c ≡ (has_let a || has_let b) → HasRegion b
+  pub region-right : (a b : Term) (c : Bool) → (c ≡ true → 0 < many) → c ≡ (has_let a || has_let b) → HasRegion b
   region-right a b c h e q = h (e ∙ or_right (has_let a) (has_let b) q)
 
+module _ (s : List ℕ) (many l len : ℕ) (long : 0 < many → l ≤ len) where
   -- what lies apart in so many words has room where the region has them
-  pub room : (e : Term) (ds : List (List ℕ)) (k : ℕ) → HasRegion e → LiesApart e s ds k l → Room s many len e ds k
+  pub room : (e : Term) (ds : List (List ℕ)) (k : ℕ) → HasRegion many e → LiesApart e s ds k l → Room s many len e ds k
   room (Lit w) ds k h a = tt
   room (TVar q) ds k h a = tt
   room (WordOf x) ds k h a = tt
@@ -37,12 +38,12 @@ module _ (s : List ℕ) (many l len : ℕ) (long : 0 < many → l ≤ len) where
       (some, omega (arith, r.0, long some), room a ds (k + n) (λ q. some) r.3, room b (dims a s ds ∷ ds) (k + n) (λ q. some) r.4)
   room (add a b) ds k h r =
       let e = fold-add Bool let_step a b in
-      (room a ds k (region-left a b (has_let (add a b)) h e) r.0, room b ds k (region-right a b (has_let (add a b)) h e) r.1)
+      (room a ds k (region-left many a b (has_let (add a b)) h e) r.0, room b ds k (region-right many a b (has_let (add a b)) h e) r.1)
   room (sub a b) ds k h r = tt
   room (mul a b) ds k h r = tt
   room (concat a b) ds k h r =
       let e = fold-concat Bool let_step a b in
-      (room a ds k (region-left a b (has_let (concat a b)) h e) r.0, room b ds k (region-right a b (has_let (concat a b)) h e) r.1)
+      (room a ds k (region-left many a b (has_let (concat a b)) h e) r.0, room b ds k (region-right many a b (has_let (concat a b)) h e) r.1)
   room (flatten e) ds k h a = room e ds k (λ q. h (fold-flatten Bool let_step e ∙ q)) a
   room (split n e) ds k h a = room e ds k (λ q. h (fold-split Bool let_step n e ∙ q)) a
   room (transpose e) ds k h a = room e ds k (λ q. h (fold-transpose Bool let_step e ∙ q)) a

@@ -9,6 +9,7 @@ use Rattle.term_tree.specs.Shaped.{flat, word_count}
 use Rattle.term_tree.specs.Tensors.{Tensor}
 use Rattle.linear_cert.specs.declared.lines.FinalLine.{FinalLine}
 use Rattle.loop_lang.specs.declared.index.Iexp.{Iexp}
+use Rattle.loop_lang.specs.Form.{IsWellFormed}
 use Rattle.loop_lang.specs.Memory.{Memory, Ends}
 use Rattle.loop_lang.specs.Reckoning.{Value, reckon}
 use Rattle.loop_lang.specs.Run.{IsMemoryOf, run}
@@ -99,3 +100,7 @@ HasLengths m marks = (s : List ℕ) → Allowed m s → Computed s (program_of m
 
 abbrev pub LengthsAreRight : Type 0
 LengthsAreRight = (m : Module) (finals : List FinalLine) (marks : List Path) → IsLowerable m finals marks → HasLengths m marks
+
+-- everything that the program of such a module names is there
+abbrev pub AcceptedIsFormed : Type 0
+AcceptedIsFormed = (m : Module) (finals : List FinalLine) (marks : List Path) → IsLowerable m finals marks → IsWellFormed (program_of m marks)
