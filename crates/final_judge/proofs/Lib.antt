@@ -1,6 +1,7 @@
 pub mod ClaimLaws
 pub mod DropLaws
-pub mod LeafLaws
 pub mod LooseLaws
+pub mod PathLaws
+pub mod StandLaws
 pub mod WalkClaims
 pub mod WordClaims

@@ -1,14 +1,12 @@
 //! Goals of leaves.
 
-ghost use Rattle.std.specs.Prelude.{◌≡◌, ◌≤◌, ◌++◌, [], IfOk, IsTrue, OnOk, length, true};
-ghost use Rattle.affine_index.specs.Normal.{holds_var};
-ghost use Rattle.affine_index.specs.Put.{shifted};
+ghost use Rattle.std.specs.Prelude.{◌≡◌, ◌≤◌, ◌++◌, [], IfOk, OnOk, length, true};
+ghost use Rattle.affine_index.specs.Put.{numbers_fit, shifted};
 ghost use Rattle.shape_rules.specs.Scopes.{given};
 ghost use Rattle.final_rules.specs.Form.{each_shifted, one_deeper};
 ghost use Rattle.final_rules.specs.Goals.{drops, full_read_claims, leaf_claims};
-ghost use Rattle.final_rules.specs.Places.{frame_of};
 ghost use Rattle.final_rules.specs.Rules.{goals_with};
-ghost use Rattle.final_judge.specs.Ready.{all_ready, step_ready};
+ghost use Rattle.final_judge.specs.Ready.{EachMoves, ReadStands, all_ready};
 
 use crate::drops::drop_goals;
 use crate::reads::{read_goals, word_goals};
@@ -20,36 +18,6 @@ use shape_rules::Shapes;
 use sqlite_items::Items;
 use std::alloc::{AllocError, Global};
 use term_tree::Term;
-
-/// The most index variables of a form, and the largest tile.
-const MOST: usize = 2147483647;
-
-/// Whether a node has what the forms of drop goals take.
-fn is_ready(node: &Around) -> bool
-    ensures { IsTrue result → step_ready (frame_of 0 node.now) ≡ true }
-{
-    match node {
-        Around::Joined(extent) => extent.is_scoped(MOST, 0),
-        Around::Tiled(rows) => *rows > 0 && *rows as usize <= MOST,
-        Around::Loop(_)
-        | Around::Swapped
-        | Around::Later(_)
-        | Around::Without(_)
-        | Around::Before(_) => true,
-    }
-}
-
-/// Whether all have.
-fn all_ready(around: &[Around]) -> bool
-    ensures { IsTrue result → all_ready around.now ≡ true }
-{
-    for node in around {
-        if !is_ready(node) {
-            return false;
-        }
-    }
-    true
-}
 
 /// The facts of a module along the path of a node.
 fn facts_at(alloc: Global, facts: &Facts, spot: &Spot) -> Result<Facts, AllocError>
@@ -79,11 +47,9 @@ fn truncations(
     around: &[Around],
 ) -> Result<(), AllocError>
     requires few { length here.now.path ≤ 2147483647 }
+    requires ready { all_ready around.now ≡ true }
     ensures { OnOk result (goals.new ≡ goals.old ++ goals_with here.now (drops here.now.path around.now [])) }
 {
-    if !all_ready(around) {
-        return Err(AllocError);
-    }
     let drops = drop_goals(alloc, here, around)?;
     goals.append(drops)
 }
@@ -97,7 +63,8 @@ pub fn leaf_goals(
     spot: &Spot,
     term: &Term,
 ) -> Result<(), AllocError>
-    requires { length spot.now.path ≤ 2147483647 }
+    requires few { length spot.now.path ≤ 2147483647 }
+    requires ready { all_ready spot.now.around ≡ true }
     ensures { OnOk result (goals.new ≡ goals.old ++ goals_with facts.now (leaf_claims term.now spot.now (given shapes.now))) }
 {
     let here = facts_at(alloc, facts, spot)?;
@@ -114,7 +81,7 @@ fn read_leaf(
     spot: &Spot,
     read: &Read,
 ) -> Result<(), AllocError>
-    requires { length spot.now.path ≤ 2147483647 }
+    requires { ReadStands [] read.now spot.now }
     ensures { OnOk result (goals.new ≡ goals.old ++ goals_with facts.now (full_read_claims [] read.now spot.now (given shapes.now))) }
 {
     let here = facts_at(alloc, facts, spot)?;
@@ -122,13 +89,11 @@ fn read_leaf(
     read_goals(alloc, goals, &here, shapes, read)
 }
 
-/// An index seen from under one more binder. A variable of a number from 2,147,483,647 on finds no room.
+/// An index seen from under one more binder.
 fn moved(alloc: Global, index: &Aff) -> Result<Aff, AllocError>
+    requires { numbers_fit 0 1 index.now ≡ true }
     ensures { IfOk result (λ x. x ≡ shifted 0 1 index.now) }
 {
-    if !index.is_scoped(MOST, MOST) {
-        return Err(AllocError);
-    }
     match index.shift(alloc, 0, 1) {
         Ok(index) => Ok(index),
         Err(_) => Err(AllocError),
@@ -137,6 +102,7 @@ fn moved(alloc: Global, index: &Aff) -> Result<Aff, AllocError>
 
 /// Each index seen from under one more binder.
 fn all_moved(alloc: Global, indices: &[Aff]) -> Result<Items<Aff>, AllocError>
+    requires { EachMoves indices.now }
     ensures { IfOk result (λ xs. xs ≡ each_shifted indices.now) }
 {
     let mut all = Items::new(alloc);
@@ -148,6 +114,7 @@ fn all_moved(alloc: Global, indices: &[Aff]) -> Result<Items<Aff>, AllocError>
 
 /// The read with one more index, that of one more binder.
 fn one_deeper(alloc: Global, read: &Read) -> Result<Read, AllocError>
+    requires { EachMoves read.now.indices }
     ensures { IfOk result (λ d. d ≡ one_deeper read.now) }
 {
     let mut indices = all_moved(alloc, read.indices.as_slice())?;
@@ -171,7 +138,7 @@ pub fn full_read_goals(
     read: Read,
     spot: Spot,
 ) -> Result<(), AllocError>
-    requires { length spot.path ≤ 2147483647 }
+    requires { ReadStands extents.now read spot }
     ensures { OnOk result (goals.new ≡ goals.old ++ goals_with facts.now (full_read_claims extents.now read spot (given shapes.now))) }
 {
     let mut read = read;

@@ -1,5 +1,5 @@
 //! The goals of a module in final form, in order.
-#![tactic(auto, using(crate::proofs::ClaimLaws::claim_laws, crate::proofs::LeafLaws::leaf_laws))]
+#![tactic(auto, using(crate::proofs::ClaimLaws::claim_laws))]
 
 pub mod drops;
 pub mod leaf;

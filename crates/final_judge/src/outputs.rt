@@ -1,10 +1,11 @@
 //! The goals of a module.
 
-ghost use Rattle.std.specs.Prelude.{◌≡◌, IfOk, true};
-ghost use Rattle.region_plan.specs.Shaped.{EachShaped};
-ghost use Rattle.shape_rules.specs.Scopes.{all_free, given};
+ghost use Rattle.std.specs.Prelude.{◌≡◌, ◌≤◌, All, IfOk};
+ghost use Rattle.shape_rules.specs.Scopes.{given};
+ghost use Rattle.term_tree.specs.Counts.{node_count};
 ghost use Rattle.term_tree.specs.Modules.{IsSound};
 ghost use Rattle.final_rules.specs.Rules.{goals_with, module_goals, output_spot, outputs_claims};
+ghost use Rattle.final_judge.specs.Ready.{EachStands};
 
 use crate::walk::term_goals;
 use fact_list::Facts;
@@ -32,8 +33,7 @@ fn outputs_goals(
     shapes: &mut Shapes,
     outputs: &[OutputDecl],
 ) -> Result<Items<Goal>, AllocError>
-    requires shaped { EachShaped shapes.old outputs.now }
-    requires free { all_free (given shapes.old) ≡ true }
+    requires { EachStands shapes.old output_spot outputs.now }
     ensures { IfOk result (λ gs. gs ≡ goals_with facts.now (outputs_claims outputs.now (given shapes.old))) }
 {
     let mut goals = Items::new(alloc);
@@ -45,9 +45,10 @@ fn outputs_goals(
 }
 
 /// What a sound module has to show, in order: over the outputs, each in preorder. Each goal has a copy of the facts along its path. Want of memory is
-/// also answered where a path has more than 2,147,483,647 facts, or the numbers of a form on the way to a goal make more than 2^64 together.
+/// also answered where the numbers of a form on the way to a goal make more than 2^64 together.
 pub fn goals(alloc: Global, module: &Module) -> Result<Items<Goal>, AllocError>
-    requires { IsSound «module».now }
+    requires sound { IsSound «module».now }
+    requires nodes { All (λ o. node_count o.term ≤ 20000) «module».now.outputs }
     ensures { IfOk result (λ gs. gs ≡ module_goals «module».now) }
 {
     let facts = module_facts(alloc, module)?;

@@ -1,14 +1,15 @@
 //! Goals of terms in store positions.
 
-ghost use Rattle.std.specs.Prelude.{◌≡◌, ◌≤◌, ◌++◌, ◌∷◌, [], IfOk, OnOk, length, true};
+ghost use Rattle.std.specs.Prelude.{◌≡◌, ◌++◌, ◌∷◌, [], IfOk, OnOk, true};
 ghost use Rattle.region_plan.specs.Shaped.{IsShaped};
 ghost use Rattle.shape_rules.specs.Scopes.{all_free, given};
-ghost use Rattle.term_tree.specs.Syntax.{add, let_in};
+ghost use Rattle.term_tree.specs.Syntax.{add, concat, let_in};
 ghost use Rattle.final_rules.specs.Form.{adds_words, is_none, no_extents, outside_word, read_under};
 ghost use Rattle.final_rules.specs.Goals.{claims_of, full_read_claims_if, leaf_claims};
 ghost use Rattle.final_rules.specs.Places.{alone, extents_under, inside, right_of};
 ghost use Rattle.final_rules.specs.Rules.{goals_with};
 ghost use Rattle.final_rules.specs.Steps.{child_spot};
+ghost use Rattle.final_judge.specs.Ready.{ReadStandsIf, Stands};
 
 use crate::leaf::{full_read_goals, leaf_goals};
 use affine_index::Aff;
@@ -34,7 +35,7 @@ fn full_read_if(
     read: Option<Read>,
     spot: &Spot,
 ) -> Result<(), AllocError>
-    requires { length spot.now.path ≤ 2147483647 }
+    requires { ReadStandsIf extents.now read spot.now }
     ensures { OnOk result (goals.new ≡ goals.old ++ goals_with facts.now (full_read_claims_if extents.now read spot.now (given shapes.now))) }
 {
     match read {
@@ -55,9 +56,7 @@ fn read_stored(
     spot: &Spot,
     term: &Term,
 ) -> Result<(), AllocError>
-    requires few { length spot.now.path ≤ 2147483647 }
-    requires shaped { IsShaped shapes.now term.now }
-    requires free { all_free (given shapes.now) ≡ true }
+    requires { Stands shapes.now spot.now term.now }
     ensures { OnOk result (goals.new ≡ goals.old ++ goals_with facts.now (full_read_claims_if (extents_under term.now (given shapes.now)) (read_under term.now []) spot.now (given shapes.now))) }
 {
     let extents = extents_under(alloc, shapes, term)?;
@@ -98,11 +97,8 @@ fn two_goals(
     a: &Term,
     b: &Term,
 ) -> Result<(), AllocError>
-    requires first { length first.now.path ≤ 2147483647 }
-    requires second { length second.now.path ≤ 2147483647 }
-    requires left { IsShaped shapes.old a.now }
-    requires right { IsShaped shapes.old b.now }
-    requires free { all_free (given shapes.old) ≡ true }
+    requires left { Stands shapes.old first.now a.now }
+    requires right { Stands shapes.old second.now b.now }
     ensures goals { OnOk result (goals.new ≡ goals.old ++ goals_with facts.now (claims_of a.now first.now (given shapes.old) ++ claims_of b.now second.now (given shapes.old))) }
     ensures shapes { OnOk result (shapes.new ≡ shapes.old) }
 {
@@ -122,11 +118,8 @@ fn sum_goals(
     a: &Term,
     b: &Term,
 ) -> Result<(), AllocError>
-    requires few { length spot.now.path ≤ 2147483647 }
     requires is { term.now ≡ add a.now b.now }
-    requires left { IsShaped shapes.old a.now }
-    requires right { IsShaped shapes.old b.now }
-    requires free { all_free (given shapes.old) ≡ true }
+    requires stands { Stands shapes.old spot.now term.now }
     ensures goals { OnOk result (goals.new ≡ goals.old ++ goals_with facts.now (claims_of term.now spot.now (given shapes.old))) }
     ensures shapes { OnOk result (shapes.new ≡ shapes.old) }
 {
@@ -147,10 +140,7 @@ fn joined_goals(
     a: &Term,
     b: &Term,
 ) -> Result<(), AllocError>
-    requires few { length spot.now.path ≤ 2147483647 }
-    requires left { IsShaped shapes.old a.now }
-    requires right { IsShaped shapes.old b.now }
-    requires free { all_free (given shapes.old) ≡ true }
+    requires { Stands shapes.old spot.now (concat a.now b.now) }
     ensures goals { OnOk result (goals.new ≡ goals.old ++ goals_with facts.now (claims_of a.now spot.now (given shapes.old) ++ claims_of b.now (inside (right_of a.now (given shapes.old)) spot.now) (given shapes.old))) }
     ensures shapes { OnOk result (shapes.new ≡ shapes.old) }
 {
@@ -169,10 +159,8 @@ fn part_goals(
     term: &Term,
     part: &Term,
 ) -> Result<(), AllocError>
-    requires few { length spot.now.path ≤ 2147483647 }
-    requires whole { IsShaped shapes.old term.now }
-    requires part { IsShaped shapes.old part.now }
-    requires free { all_free (given shapes.old) ≡ true }
+    requires whole { Stands shapes.old spot.now term.now }
+    requires part { Stands shapes.old (child_spot term.now (given shapes.old) spot.now) part.now }
     ensures goals { OnOk result (goals.new ≡ goals.old ++ goals_with facts.now (claims_of part.now (child_spot term.now (given shapes.old) spot.now) (given shapes.old))) }
     ensures shapes { OnOk result (shapes.new ≡ shapes.old) }
 {
@@ -191,9 +179,7 @@ fn let_goals(
     a: &Term,
     b: &Term,
 ) -> Result<(), AllocError>
-    requires few { length spot.now.path ≤ 2147483647 }
-    requires shaped { IsShaped shapes.old (let_in a.now b.now) }
-    requires free { all_free (given shapes.old) ≡ true }
+    requires { Stands shapes.old spot.now (let_in a.now b.now) }
     ensures goals { OnOk result (goals.new ≡ goals.old ++ goals_with facts.now (claims_of a.now (alone spot.now) (given shapes.old) ++ claims_of b.now spot.now (extents_under a.now (given shapes.old) ∷ given shapes.old))) }
     ensures shapes { OnOk result (shapes.new ≡ shapes.old) }
 {
@@ -218,9 +204,7 @@ pub fn term_goals(
     spot: &Spot,
     term: &Term,
 ) -> Result<(), AllocError>
-    requires few { length spot.now.path ≤ 2147483647 }
-    requires shaped { IsShaped shapes.old term.now }
-    requires free { all_free (given shapes.old) ≡ true }
+    requires { Stands shapes.old spot.now term.now }
     ensures goals { OnOk result (goals.new ≡ goals.old ++ goals_with facts.now (claims_of term.now spot.now (given shapes.old))) }
     ensures shapes { OnOk result (shapes.new ≡ shapes.old) }
 {

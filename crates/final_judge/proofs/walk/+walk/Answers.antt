@@ -1,42 +1,45 @@
-use Rattle.std.proofs.Common.{◌≡◌, ◌++◌, List, OnOk, ◌∙◌, arith, inl, inr, subst, sym}
+use Rattle.std.proofs.Common.{◌≡◌, ◌++◌, List, OnOk, ◌∙◌, arith, inl, inr, refl, subst, sym}
 use Rattle.shape_rules.specs.Scopes.{given}
 use Rattle.term_tree.specs.Syntax.{add}
 use Rattle.term_tree.proofs.Forms.{Add-is}
-use Rattle.region_plan.proofs.WalkLaws.{falls, let_less, let_shaped, one_less, one_shaped, two_less, two_shaped}
+use Rattle.region_plan.proofs.WalkLaws.{falls, let_less, one_less, two_less}
 use Rattle.final_rules.specs.Goals.{Claim}
 use Rattle.final_rules.specs.Rules.{goals_with}
+use Rattle.final_rules.specs.Steps.{child_spot}
+use Rattle.final_judge.proofs.StandLaws.{concat-stands, let-stands, part-stands}
 use Rattle.final_judge.proofs.WalkClaims.{concat-claims, let-claims, part-claims}
 use Rattle.final_judge.proofs.walk.+walk.Goals as goal
 
 pub term_goals-let_goals-requires : goal.term_goals-let_goals-requires
 term_goals-let_goals-requires t c =
     let l = let_less c.args.term.now c.in-Let.a c.in-Let.b c.get.result.now c.get-in-Let.result.now c.get.ensures c.get-in-Let.ensures c.in-Let.is in
-    let s = let_shaped c.args.shapes.now c.args.term.now c.in-Let.a c.in-Let.b c.get.result.now c.get-in-Let.result.now c.get.ensures c.get-in-Let.ensures
-    c.in-Let.is c.requires.shaped in
-    (falls c.decreases (omega (arith, l)), (c.requires.few, (s, c.requires.free)))
+    let s = let-stands c.args.shapes.now c.args.spot.now c.args.term.now c.in-Let.a c.in-Let.b c.get.result.now c.get-in-Let.result.now c.get.ensures
+    c.get-in-Let.ensures c.in-Let.is c.requires in
+    (falls c.decreases (omega (arith, l)), s)
 
 pub term_goals-sum_goals-requires : goal.term_goals-sum_goals-requires
 term_goals-sum_goals-requires t c =
     let l = two_less c.args.term.now c.in-Add.a c.in-Add.b c.get-in-Add.result.now c.get-in-Add-2.result.now c.get-in-Add.ensures c.get-in-Add-2.ensures
     (inl c.in-Add.is) in
-    let s = two_shaped c.args.shapes.now c.args.term.now c.in-Add.a c.in-Add.b c.get-in-Add.result.now c.get-in-Add-2.result.now c.get-in-Add.ensures
-    c.get-in-Add-2.ensures (inl c.in-Add.is) c.requires.shaped in
     let e = c.in-Add.is ∙ Add-is c.in-Add.a c.in-Add.b ∙ (λ i. add (sym c.get-in-Add.ensures i) (sym c.get-in-Add-2.ensures i)) in
-    (falls c.decreases (omega (arith, l)), (c.requires.few, (e, (s.0, (s.1, c.requires.free)))))
+    (falls c.decreases (omega (arith, l)), (e, c.requires))
 
 pub term_goals-joined_goals-requires : goal.term_goals-joined_goals-requires
 term_goals-joined_goals-requires t c =
     let l = two_less c.args.term.now c.in-Concat.a c.in-Concat.b c.get-in-Concat.result.now c.get-in-Concat-2.result.now c.get-in-Concat.ensures
     c.get-in-Concat-2.ensures (inr (inr (inr c.in-Concat.is))) in
-    let s = two_shaped c.args.shapes.now c.args.term.now c.in-Concat.a c.in-Concat.b c.get-in-Concat.result.now c.get-in-Concat-2.result.now
-    c.get-in-Concat.ensures c.get-in-Concat-2.ensures (inr (inr (inr c.in-Concat.is))) c.requires.shaped in
-    (falls c.decreases (omega (arith, l)), (c.requires.few, (s.0, (s.1, c.requires.free))))
+    let s = concat-stands c.args.shapes.now c.args.spot.now c.args.term.now c.in-Concat.a c.in-Concat.b c.get-in-Concat.result.now
+    c.get-in-Concat-2.result.now c.get-in-Concat.ensures c.get-in-Concat-2.ensures c.in-Concat.is c.requires in
+    (falls c.decreases (omega (arith, l)), s)
 
 pub term_goals-part_goals-requires : goal.term_goals-part_goals-requires
 term_goals-part_goals-requires t c =
-    let l = one_less c.args.term.now c.in-Gen.part c.get-in-Gen.result.now c.get-in-Gen.ensures (inr c.in-Gen.is) in
-    let s = one_shaped c.args.shapes.now c.args.term.now c.in-Gen.part c.get-in-Gen.result.now c.get-in-Gen.ensures (inr c.in-Gen.is) c.requires.shaped in
-    (falls c.decreases (omega (arith, l)), (c.requires.few, (c.requires.shaped, (s, c.requires.free))))
+    let q = c.args.spot.now in
+    let f = c.args.term.now in
+    let l = one_less f c.in-Gen.part c.get-in-Gen.result.now c.get-in-Gen.ensures (inr c.in-Gen.is) in
+    let s = part-stands c.args.shapes.now q (child_spot f (given c.args.shapes.now) q) f c.in-Gen.part c.get-in-Gen.result.now c.get-in-Gen.ensures c.in-Gen.is
+    refl c.requires in
+    (falls c.decreases (omega (arith, l)), (c.requires, s))
 
 pub term_goals-returns-in-Let-clause-goals : goal.term_goals-returns-in-Let-clause-goals
 term_goals-returns-in-Let-clause-goals t c =
