@@ -1,0 +1,9 @@
+pub mod Names
+pub mod Parts
+pub mod Until
+pub mod Rules
+pub mod Expressions
+pub mod Statements
+pub mod Units
+pub mod Refused
+pub mod Alone

@@ -1,0 +1,4 @@
+//! C texts read back: which program a text stands for, and that it is one alone.
+#![tactic(auto)]
+
+pub mod laws;
