@@ -1,23 +1,14 @@
 -- Lengths in order, wrong counts, and answers.
-use Rattle.std.proofs.Common.{◌≡◌, ◌<◌, ◌≤◌, ℕ, zero, suc, ◌+◌, min, true, List, [], ◌∷◌, ◌++◌, length, get_or, drop, append_assoc, add-one, None, Result, Ok}
-use Rattle.std.proofs.Common.{Err, refl, ap, arith, subst, sym, ◌∙◌}
+use Rattle.std.proofs.Common.{◌≡◌, ◌≤◌, ℕ, zero, suc, min, true, List, [], ◌∷◌, length, drop, None, Result, Ok}
+use Rattle.std.proofs.Common.{Err, refl, ap, arith, subst}
 use Rattle.loop_lang.specs.declared.index.Iexp.{Iexp}
-use Rattle.loop_lang.specs.Reckoning.{Reckoned, reckon}
+use Rattle.loop_lang.specs.Reckoning.{reckon}
 use Rattle.loop_run.specs.declared.refusal.MakeRefusal.{MakeRefusal}
 use Rattle.loop_run.specs.declared.refusal.MakeRefusal.TheVariants.{Stuck, TooBigToRun, WrongCount, Memory}
 use Rattle.loop_run.specs.Fits.{all_fit}
 use Rattle.loop_run.specs.Indices.{index_fold}
-use Rattle.loop_run.specs.Made.{length_told, then_told, lengths_told, wrong_count, IsAnswer}
+use Rattle.loop_run.specs.Made.{then_told, lengths_told, wrong_count, IsAnswer}
 use Rattle.loop_run.proofs.IndexJoin.{index-is}
-
--- the item at a place, and those behind it
-drop-next : {A : Type 0} → (xs : List A) (k : ℕ) (x : A) → k < length xs → x ≡ get_or xs k x → drop k xs ≡ x ∷ drop (k + 1) xs
-drop-next xs k x h e = by xs k x h ∙ (λ i. sym e i ∷ drop (sym (add-one k) i) xs)
-  where
-    by : {A : Type 0} → (xs : List A) (k : ℕ) (x : A) → k < length xs → drop k xs ≡ get_or xs k x ∷ drop (suc k) xs
-    by [] k x h = absurd (omega (arith, h))
-    by (y ∷ xs) zero x h = refl
-    by (y ∷ xs) (suc k) x h = by xs k x (omega (arith, h))
 
 no_inputs : (k : ℕ) (ns : List ℕ) → wrong_count k ns [] ≡ None
 no_inputs k [] = refl
@@ -30,19 +21,6 @@ wrong-end k zero (n ∷ ns) (ws ∷ wss) h = absurd (omega (arith, h))
 wrong-end k (suc at) [] wss h = refl
 wrong-end k (suc at) (n ∷ ns) [] h = no_inputs k (drop at ns)
 wrong-end k (suc at) (n ∷ ns) (ws ∷ wss) h = wrong-end k at ns wss (omega (arith, h))
-
-one_more : (found : List ℕ) (n : ℕ) (x : Result (List ℕ) MakeRefusal)
-    → then_told (then_told x (λ ns. Ok (n ∷ ns))) (λ ns. Ok (found ++ ns)) ≡ then_told x (λ ns. Ok ((found ++ n ∷ []) ++ ns))
-one_more found n (Ok ns) = ap (λ l. Ok l) (sym (append_assoc found (n ∷ []) ns))
-one_more found n (Err e) = refl
-
--- one more length is told
-pub told-next : (f : Iexp → Reckoned) (xs : List Iexp) (i : ℕ) (x : Iexp) (found : List ℕ) (n : ℕ) → i < length xs → x ≡ get_or xs i x
-    → Ok n ≡ length_told (f x)
-    → then_told (lengths_told f (drop i xs)) (λ ns. Ok (found ++ ns)) ≡ then_told (lengths_told f (drop (i + 1) xs)) (λ ns. Ok ((found ++ n ∷ []) ++ ns))
-told-next f xs i x found n h e told = ap (λ l. then_told (lengths_told f l) (λ ns. Ok (found ++ ns))) (drop-next xs i x h e)
-    ∙ ap (λ y. then_told (then_told y (λ m. then_told (lengths_told f (drop (i + 1) xs)) (λ ns. Ok (m ∷ ns)))) (λ ns. Ok (found ++ ns))) (sym told)
-    ∙ one_more found n (lengths_told f (drop (i + 1) xs))
 
 pub told-fits : (s : List ℕ) (xs : List Iexp) → all_fit s ≡ true → lengths_told (index_fold s []) xs ≡ lengths_told (λ x. reckon x s []) xs
 told-fits s xs h = λ i. lengths_told (λ x. index-is s [] h refl x i) xs

@@ -1,14 +1,9 @@
--- One step of a loop of turns and of a fill, and the levels of a loop.
-use Rattle.std.proofs.Common.{◌≡◌, ◌<◌, ℕ, suc, ◌+◌, ◌-◌, Bool, ap, arith, sym, ◌∙◌}
+-- One step of a loop of turns and of a fill.
+use Rattle.std.proofs.Common.{◌≡◌, ◌<◌, ℕ, suc, ◌+◌, ◌-◌, ap, arith}
 use Rattle.std.specs.Prelude.{ℤ}
-use Rattle.loop_lang.specs.declared.index.Iexp.{Iexp}
 use Rattle.loop_lang.specs.declared.word.Buf.{Buf}
-use Rattle.loop_lang.specs.declared.stmt.Stmt.{Stmt}
-use Rattle.loop_lang.specs.declared.stmt.Stmt.TheOpen.{Stmt-F}
-use Rattle.loop_lang.specs.declared.stmt.Stmt.TheFolds.{fold-roll-Stmt}
-use Rattle.loop_lang.specs.declared.stmt.Stmt.TheVariants.{For, rolls-For}
 use Rattle.loop_run.specs.Limited.{State, next, begun}
-use Rattle.loop_run.specs.Statements.{Doing, turned, zero_put, zeros_put, levels, levels_step}
+use Rattle.loop_run.specs.Statements.{Doing, turned, zero_put, zeros_put}
 
 pub turned-next : (limit i n : ℕ) (f : ℕ → Doing) (t : State) → i < n
     → turned limit i (n - i) f t ≡ next (next (begun limit t) (f i)) (turned limit (i + 1) (n - (i + 1)) f)
@@ -21,6 +16,3 @@ pub zeros-next : (limit : ℕ) (b : Buf) (at : ℤ) (i n : ℕ) (t : State) → 
 zeros-next limit b at i n t h =
     let e : n - i ≡ suc (n - (i + 1)) = omega arith in
     ap (λ k. zeros_put limit b at i k t) e
-
-pub levels-for : (n : Iexp) (marked : Bool) (e : Stmt) → levels (For n marked e) ≡ 1 + levels e
-levels-for n marked e = ap levels (sym (rolls-For n marked e)) ∙ fold-roll-Stmt ℕ levels_step (Stmt-F.For n marked e)

@@ -1,5 +1,5 @@
 -- The word of an expression is that of its tree, and its loads and products are those of the tree.
-use Rattle.std.proofs.Common.{◌≡◌, ℕ, zero, suc, ◌+◌, true, List, [], ◌∷◌, ◌++◌, length, append_assoc, refl, ap, arith, sym, ◌∙◌}
+use Rattle.std.proofs.Common.{◌≡◌, ℕ, zero, suc, ◌+◌, true, List, ◌++◌, length, append_assoc, length-append, refl, ap, arith, sym, ◌∙◌}
 use Rattle.std.specs.Prelude.{ℤ}
 use Rattle.loop_lang.specs.declared.word.Buf.{Buf}
 use Rattle.loop_lang.specs.declared.word.Wexp.{Wexp}
@@ -24,10 +24,6 @@ more-add a (suc m) n = let e : suc m + n ≡ suc (m + n) = omega arith in ap (mo
 
 more-one : (a m : ℕ) → more a (m + 1) ≡ capped (more a m) 1
 more-one a m = more-add a m 1
-
-length-both : {A : Type 0} → (xs ys : List A) → length (xs ++ ys) ≡ length xs + length ys
-length-both [] ys = let e : length ys ≡ 0 + length ys = omega arith in e
-length-both (x ∷ xs) ys = let e : suc (length xs + length ys) ≡ suc (length xs) + length ys = omega arith in ap suc (length-both xs ys) ∙ e
 
 -- the counts with those of a tree
 abbrev pub with_tree : Tree → Counted → Counted
@@ -88,14 +84,14 @@ module _ (f : ℕ → ℕ → ℕ) (make : Tree → Tree → Tree) (extra : Got 
 counts-sum : (make : Tree → Tree → Tree) (a b : Tree) (w : ℕ) (c : Counted) → loads (make a b) ≡ loads a ++ loads b
     → products (make a b) ≡ products a + products b → Gives w (with_tree b (with_tree a c)) ≡ Gives w (with_tree (make a b) c)
 counts-sum make a b w c ls ps =
-    let l = sym (ap (λ xs. more c.loads (length xs)) ls ∙ ap (more c.loads) (length-both (loads a) (loads b))
+    let l = sym (ap (λ xs. more c.loads (length xs)) ls ∙ ap (more c.loads) (length-append (loads a) (loads b))
     ∙ more-add c.loads (length (loads a)) (length (loads b))) in
     let p = sym (ap (more c.products) ps ∙ more-add c.products (products a) (products b)) in
     λ i. Gives w (record c { loads = l i; products = p i })
 
 counts-product : (a b : Tree) (w : ℕ) (c : Counted) → product_counted (Gives w (with_tree b (with_tree a c))) ≡ Gives w (with_tree (Product a b) c)
 counts-product a b w c =
-    let l = sym (ap (more c.loads) (length-both (loads a) (loads b)) ∙ more-add c.loads (length (loads a)) (length (loads b))) in
+    let l = sym (ap (more c.loads) (length-append (loads a) (loads b)) ∙ more-add c.loads (length (loads a)) (length (loads b))) in
     let p = sym (more-one c.products (products a + products b) ∙ ap (λ n. capped n 1) (more-add c.products (products a) (products b))) in
     λ i. Gives w (record c { loads = l i; products = p i })
 
