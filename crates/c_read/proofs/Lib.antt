@@ -11,3 +11,5 @@ mod LengthLaws
 mod TextLaws
 pub mod WholeText
 pub mod Alone
+pub mod Formed
+mod Rows

@@ -3,7 +3,7 @@
 ghost use Rattle.loop_lang.specs.Form.{IsWellFormed};
 ghost use Rattle.c_print.specs.Program.{canonical_text};
 ghost use Rattle.c_text.specs.Flat.{IsFlat};
-ghost use Rattle.c_read.specs.Alone.{IsExact, IsTextOfAlone};
+ghost use Rattle.c_read.specs.Alone.{IsExact, IsOfFormed, IsTextOfAlone};
 ghost use Rattle.c_read.specs.Refused.{AreRefused};
 
 use loop_lang::Prog;
@@ -18,10 +18,12 @@ pub fn canonical_text_is_of_its_program_alone(prog: &Prog)
 }
 
 /// The reader of texts, a function of their words, answers the program that a text stands for, exactly there; and
-/// where it refuses a text, the words as far as the one that decides it are the beginning of no text.
+/// where it refuses a text, the words as far as the one that decides it are the beginning of no text. What a text
+/// stands for is well formed.
 pub fn text_reader_is_exact(text: &[u8])
     ensures exact { IsExact text.now }
     ensures refused { AreRefused text.now }
+    ensures formed { IsOfFormed text.now }
 {
     let _ = text.len();
 }
