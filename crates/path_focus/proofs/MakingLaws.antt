@@ -1,20 +1,20 @@
 -- What rules make: room for the numbers of raw forms, their values, and what a body with a form for its variable means.
 use Rattle.std.proofs.Common.{◌≡◌, ℕ, zero, suc, ◌+◌, ◌*◌, ◌^◌, ◌<◌, ◌≤◌, List, [], ◌∷◌, refl, ap, sym, ◌∙◌, subst, arith, true}
-use Rattle.std.proofs.lemmas.Bool.{and_from}
 use Rattle.std.specs.Prelude.{ℤ, pos, negsuc, ◌+ℤ◌, ◌*ℤ◌, ◌≤ℤ◌, unsigned_abs}
 use Rattle.std.proofs.lemmas.Int.{ints}
 use Rattle.affine_index.specs.Form.{literal_form}
-use Rattle.affine_index.specs.Normal.{coefficients_fit, is_normal, is_ordered, is_short}
+use Rattle.affine_index.specs.Normal.{is_normal, is_ordered}
 use Rattle.affine_index.specs.Limited.{items_scoped}
 use Rattle.affine_index.specs.Put.{given as given_form}
-use Rattle.affine_index.specs.Sum.{scaled, sum_of}
+use Rattle.affine_index.specs.Quotient.{quotient_of}
+use Rattle.affine_index.specs.Sum.{difference_of, scaled, sum_of}
 use Rattle.affine_index.specs.Value.{items_value}
 use Rattle.affine_index.specs.Wide.{norm}
 use Rattle.affine_index.specs.declared.form.Items.{Items}
 use Rattle.affine_index.proofs.ArithmeticLaws.{normal-ordered}
-use Rattle.affine_index.proofs.CountLaws.{count-items}
 use Rattle.affine_index.proofs.NormLaws.{scaled-norm, sum-norm}
-use Rattle.affine_index.proofs.OrderedLaws.{literal-ordered, scaled-ordered}
+use Rattle.affine_index.proofs.OrderedLaws.{difference-ordered, quotient-ordered, scaled-ordered}
+use Rattle.affine_index.proofs.RemainderLaws.{quotient-norm}
 use Rattle.affine_index.proofs.PutNorm.{normal-norm}
 use Rattle.affine_index.proofs.Sorted.{sum-ordered}
 use Rattle.affine_index.proofs.SumValue.{sum_of-value}
@@ -31,33 +31,75 @@ use Rattle.path_focus.specs.Numbers.{GoalsFit}
 use Rattle.path_focus.proofs.PutLaws.{put_extents, put_goals, put_shape}
 use Rattle.path_focus.specs.Making.{in_tile, rest_below, tile_rest, with_index}
 
-one-normal : is_normal (literal_form (pos 1)) ≡ true
-one-normal = and_from (is_ordered (literal_form (pos 1))) _ (literal-ordered (pos 1))
-    (and_from (coefficients_fit (literal_form (pos 1))) (is_short (literal_form (pos 1))) refl (simp (count-items)))
+pub taken-room : (x one a b : Items) → a ≡ x → b ≡ one → is_normal x ≡ true → is_normal one ≡ true → norm a + norm b < 2 ^ 127
+taken-room x one a b e f p q = omega (arith, ap norm e, ap norm f, normal-norm x p, normal-norm one q)
 
-pub first-room : (x b o : Items) → b ≡ x → o ≡ literal_form (pos 1) → is_normal x ≡ true → norm b + norm o < 2 ^ 127
-first-room x b o e f p = omega (arith, ap norm e, ap norm f, normal-norm x p, normal-norm (literal_form (pos 1)) one-normal)
+pub minus-room : (x one t : Items) → t ≡ sum_of x one → is_normal x ≡ true → is_normal one ≡ true → unsigned_abs (negsuc 0) * norm t < 2 ^ 127
+minus-room x one t e p q = omega (arith, ap norm e, sum-norm x one, normal-norm x p, normal-norm one q)
 
-taken-norm : (x : Items) → is_normal x ≡ true → norm (sum_of x (literal_form (pos 1))) ≤ 2 ^ 49
-taken-norm x p = omega (arith, sum-norm x (literal_form (pos 1)), normal-norm x p, normal-norm (literal_form (pos 1)) one-normal)
-
-pub second-room : (x t : Items) → t ≡ sum_of x (literal_form (pos 1)) → is_normal x ≡ true → unsigned_abs (negsuc 0) * norm t < 2 ^ 127
-second-room x t e p = omega (arith, ap norm e, taken-norm x p)
-
-pub third-room : (n x a m : Items) → a ≡ n → m ≡ scaled (negsuc 0) (sum_of x (literal_form (pos 1))) → is_normal n ≡ true → is_normal x ≡ true
+pub rest-room : (n x one a m : Items) → a ≡ n → m ≡ scaled (negsuc 0) (sum_of x one) → is_normal n ≡ true → is_normal x ≡ true → is_normal one ≡ true
     → norm a + norm m < 2 ^ 127
-third-room n x a m e f p q = omega (arith, ap norm e, ap norm f, normal-norm n p, taken-norm x q, scaled-norm (negsuc 0) (sum_of x (literal_form (pos 1))))
+rest-room n x one a m e f p q r =
+    omega (arith, ap norm e, ap norm f, normal-norm n p, normal-norm x q, normal-norm one r, sum-norm x one, scaled-norm (negsuc 0) (sum_of x one))
 
-pub rest-ordered : (n x : Items) → is_normal n ≡ true → is_normal x ≡ true → is_ordered (rest_below n x) ≡ true
-rest-ordered n x p q =
-    sum-ordered n (scaled (negsuc 0) (sum_of x (literal_form (pos 1)))) (normal-ordered n p)
-    (scaled-ordered (negsuc 0) (sum_of x (literal_form (pos 1)))
-    (sum-ordered x (literal_form (pos 1)) (normal-ordered x q) (normal-ordered (literal_form (pos 1)) one-normal)))
+pub rest-ordered : (n x one t : Items) → t ≡ difference_of n (sum_of x one) → is_normal n ≡ true → is_normal x ≡ true → is_normal one ≡ true
+    → is_ordered t ≡ true
+rest-ordered n x one t e p q r =
+    ap is_ordered e ∙ difference-ordered n (sum_of x one) (normal-ordered n p) (sum-ordered x one (normal-ordered x q) (normal-ordered one r))
+
+pub minus-one-room : (n a : Items) → a ≡ n → is_normal n ≡ true → unsigned_abs (negsuc 0) * norm a < 2 ^ 127
+minus-one-room n a e p = omega (arith, ap norm e, normal-norm n p)
+
+most : (a b c d : ℕ) → a ≤ b → c ≤ d → a * c ≤ b * d
+most a b c d p q = grind arith
+
+times_norm : (k : ℕ) (p : Items) → k ≤ 4294967295 → is_normal p ≡ true → k * norm p ≤ 2 ^ 32 * 2 ^ 48
+times_norm k p l h = most k (2 ^ 32) (norm p) (2 ^ 48) (omega (arith, l)) (normal-norm p h)
+
+pub begun-room : (k : ℕ) (p a : Items) → k ≤ 4294967295 → a ≡ p → is_normal p ≡ true → k * norm a < 2 ^ 127
+begun-room k p a l e h = omega (arith, ap (λ z. k * norm z) e, times_norm k p l h)
+
+pub in_tile-room : (k : ℕ) (p q b a : Items) → k ≤ 4294967295 → b ≡ scaled (pos k) p → a ≡ q → is_normal p ≡ true → is_normal q ≡ true
+    → norm b + norm a < 2 ^ 127
+in_tile-room k p q b a l e f h g =
+    omega (arith, ap norm e, ap norm f, scaled-norm (pos k) p, times_norm k p l h, normal-norm q g)
+
+pub in_tile-ordered : (k : ℕ) (p q t : Items) → t ≡ in_tile k p q → is_normal p ≡ true → is_normal q ≡ true → is_ordered t ≡ true
+in_tile-ordered k p q t e h g =
+    ap is_ordered e ∙ sum-ordered (scaled (pos k) p) q (scaled-ordered (pos k) p (normal-ordered p h)) (normal-ordered q g)
+
+module _ (k : ℕ) (positive : 0 < k) (limit : k ≤ 2147483647) (n more : Items) (normal : is_normal n ≡ true) (normal_more : is_normal more ≡ true) where
+  last_norm : norm (sum_of n more) ≤ 2 ^ 49
+  last_norm = omega (arith, sum-norm n more, normal-norm n normal, normal-norm more normal_more)
+
+  tiles_norm : norm (quotient_of (sum_of n more) k) ≤ 2 ^ 50
+  tiles_norm = omega (arith, quotient-norm (sum_of n more) k positive, last_norm)
+
+  rows_norm : k * norm (quotient_of (sum_of n more) k) ≤ 2 ^ 31 * 2 ^ 50
+  rows_norm = most k (2 ^ 31) (norm (quotient_of (sum_of n more) k)) (2 ^ 50) (omega (arith, limit)) tiles_norm
+
+  pub last-room : (x : Items) → x ≡ sum_of n more → norm x + 1 < 2 ^ 127
+  last-room x e = omega (arith, ap norm e, last_norm)
+
+  pub tiles-room : (x : Items) → x ≡ quotient_of (sum_of n more) k → k * norm x < 2 ^ 127
+  tiles-room x e = omega (arith, ap (λ z. k * norm z) e, rows_norm)
+
+  pub rows-room : (x y : Items) → x ≡ scaled (pos k) (quotient_of (sum_of n more) k) → y ≡ scaled (negsuc 0) n → norm x + norm y < 2 ^ 127
+  rows-room x y e f =
+      omega (arith, ap norm e, ap norm f, scaled-norm (pos k) (quotient_of (sum_of n more) k), rows_norm, scaled-norm (negsuc 0) n, normal-norm n normal)
+
+  pub tile_rest-ordered : (t : Items) → t ≡ difference_of (scaled (pos k) (quotient_of (sum_of n more) k)) n → is_ordered t ≡ true
+  tile_rest-ordered t e =
+      ap is_ordered e ∙ difference-ordered (scaled (pos k) (quotient_of (sum_of n more) k)) n
+      (scaled-ordered (pos k) (quotient_of (sum_of n more) k)
+      (quotient-ordered (sum_of n more) k positive limit (sum-ordered n more (normal-ordered n normal) (normal-ordered more normal_more))))
+      (normal-ordered n normal)
 
 -- values of the raw forms
 pub value-rest_below : (s r : List ℕ) (n x : Items) → items_value s r (rest_below n x) +ℤ (items_value s r x +ℤ pos 1) ≡ items_value s r n
 value-rest_below s r n x =
-    (λ i. items_value s r (rest_below n x) +ℤ (sym (sum_of-value s r x (literal_form (pos 1)) ∙ ap (λ z. items_value s r x +ℤ z) (value-literal s r (pos 1))))
+    (λ i. items_value s r (rest_below n x) +ℤ (sym (sum_of-value s r x (literal_form (pos 1))
+    ∙ ap (λ z. items_value s r x +ℤ z) (value-literal s r (pos 1))))
     i)
     ∙ value-difference s r n (sum_of x (literal_form (pos 1)))
 

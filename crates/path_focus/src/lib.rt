@@ -1,6 +1,7 @@
 //! Places in modules: what is known there, and a term put in place of another.
 #![tactic(auto)]
 
+pub mod forms;
 pub mod laws;
 pub mod making;
 mod outcome;

@@ -1,19 +1,23 @@
 //! What rules make: conditions, and a body with a form for its variable.
 
-ghost use Rattle.std.specs.Prelude.{◌≡◌, ◌≤◌, [], ◌∷◌, IfOk};
+ghost use Rattle.std.specs.Prelude.{◌≡◌, ◌≤◌, [], ◌∷◌, pos, IfOk, IsTrue, MatchResult};
+ghost use Rattle.affine_index.specs.Form.{literal_form};
+ghost use Rattle.affine_index.specs.Normal.{Refused, coefficient_fits};
+ghost use Rattle.affine_index.specs.declared.form.Items as form;
 ghost use Rattle.binders.specs.Answers.{IsWithinLimits, IsWithinReach};
-ghost use Rattle.binders.specs.PlainMaps.{put_index_reach};
+ghost use Rattle.binders.specs.Maps.{mapped};
+ghost use Rattle.binders.specs.PlainMaps.{put_index_map, put_index_reach};
 ghost use Rattle.fact_list.specs.Facts.{where_normal};
-ghost use Rattle.path_focus.specs.Making.{one_of_rows, owed, rest_below, with_index};
+ghost use Rattle.path_focus.specs.Making.{lowered, one_of_rows, owed, rest_below, with_index};
 ghost use Rattle.path_focus.specs.Outcome.{IsDraft};
 ghost use Rattle.term_tree.specs.Counts.{node_depth};
 
+use crate::forms::rest_below;
 use crate::outcome::Draft;
 use crate::rule::Condition;
-use affine_index::raw::{copied, scaled, sum, within_limits};
 use affine_index::{Aff, AffRefusal};
 use binders::{MapRefusal, PutIndex, map_term};
-use fact_list::{CertRefusal, Facts, copy_facts, number};
+use fact_list::{CertRefusal, Facts, copy_facts};
 use sqlite_items::{Boxed, Items};
 use std::alloc::Global;
 use term_tree::Term;
@@ -38,12 +42,38 @@ fn drafted(alloc: Global, mapped: Result<Term, MapRefusal>) -> Result<Draft, Cer
     }
 }
 
+fn literal(alloc: Global, number: i64) -> Result<Aff, CertRefusal>
+    requires { IsTrue (coefficient_fits number) }
+    ensures { IfOk result (λ x. x ≡ literal_form number) }
+{
+    match Aff::literal(alloc, number) {
+        Ok(form) => Ok(form),
+        Err(_) => Err(CertRefusal::Memory),
+    }
+}
+
 fn one(alloc: Global, x: Aff) -> Result<Items<Aff>, CertRefusal>
     ensures { IfOk result (λ by. by ≡ x ∷ []) }
 {
     let mut by = Items::new(alloc);
     by.push(x)?;
     Ok(by)
+}
+
+/// The body of gens and sums with forms for their variables, the innermost first, under so many others in their place.
+pub fn with_indices(
+    alloc: Global,
+    by: Items<Aff>,
+    under: u32,
+    body: &Term,
+) -> Result<Draft, CertRefusal>
+    requires deep { node_depth body.now ≤ 2147483647 }
+    requires within { IsWithinReach (put_index_reach by under) body.now }
+    ensures { IfOk result (IsDraft (mapped (put_index_map by under) 0 0 body.now)) }
+{
+    let map = PutIndex { by, under };
+    let mapped = map_term(alloc, &map, body);
+    drafted(alloc, mapped)
 }
 
 /// The body of a gen or sum with a form for its variable.
@@ -53,20 +83,24 @@ pub fn with_index(alloc: Global, x: Aff, body: &Term) -> Result<Draft, CertRefus
     ensures { IfOk result (IsDraft (with_index x body.now)) }
 {
     let by = one(alloc, x)?;
-    let map = PutIndex { by, under: 0 };
-    let mapped = map_term(alloc, &map, body);
-    drafted(alloc, mapped)
+    with_indices(alloc, by, 0, body)
 }
 
-/// n - 1 - x, where its form is within the limits.
-fn rest_below(alloc: Global, n: &Aff, x: &Aff) -> Result<Option<Aff>, CertRefusal>
-    ensures { IfOk result (λ o. o ≡ where_normal (rest_below n.now x.now)) }
+/// The body without its gen or sum, with 0 for the variable.
+pub fn lowered(alloc: Global, body: &Term) -> Result<Draft, CertRefusal>
+    requires deep { node_depth body.now ≤ 2147483647 }
+    requires within { IsWithinReach (put_index_reach (literal_form (pos 0) ∷ []) 0) body.now }
+    ensures { IfOk result (IsDraft (lowered body.now)) }
 {
-    let one = number(alloc, 1)?;
-    let taken = sum(alloc, copied(alloc, x)?, one)?;
-    let minus = scaled(alloc, -1, taken)?;
-    let total = sum(alloc, copied(alloc, n)?, minus)?;
-    match within_limits(alloc, total) {
+    let zero = literal(alloc, 0)?;
+    with_index(alloc, zero, body)
+}
+
+/// What index arithmetic has made, where it is within the limits.
+fn if_normal(made: Result<Aff, AffRefusal>) -> Result<Option<Aff>, CertRefusal>
+    ensures { (raw : form.Items) → MatchResult made (λ x. x ≡ raw) (Refused raw) → IfOk result (λ o. o ≡ where_normal raw) }
+{
+    match made {
         Ok(form) => {
             form.told();
             Ok(Some(form))
@@ -76,6 +110,13 @@ fn rest_below(alloc: Global, n: &Aff, x: &Aff) -> Result<Option<Aff>, CertRefusa
         Err(AffRefusal::IndexTooLong) => Ok(None),
         Err(AffRefusal::NotAffine) => Ok(None),
     }
+}
+
+/// n - 1 - x, where its form is within the limits.
+pub fn rest_if_normal(alloc: Global, n: &Aff, x: &Aff) -> Result<Option<Aff>, CertRefusal>
+    ensures { IfOk result (λ o. o ≡ where_normal (rest_below n.now x.now)) }
+{
+    if_normal(rest_below(alloc, n, x))
 }
 
 /// A copy of a form, which is within the limits.
@@ -109,7 +150,7 @@ pub fn not_negative(alloc: Global, facts: &Facts, x: &Aff) -> Result<Condition, 
 pub fn below(alloc: Global, facts: &Facts, n: &Aff, x: &Aff) -> Result<Condition, CertRefusal>
     ensures { IfOk result (λ c. c ≡ owed facts.now (rest_below n.now x.now)) }
 {
-    let goal = rest_below(alloc, n, x)?;
+    let goal = rest_if_normal(alloc, n, x)?;
     condition(alloc, facts, goal)
 }
 

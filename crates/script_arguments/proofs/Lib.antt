@@ -1,0 +1,4 @@
+pub mod NameLaws
+pub mod FormLaws
+pub mod Folds
+pub mod Sizes
