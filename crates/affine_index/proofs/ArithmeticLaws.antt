@@ -39,8 +39,12 @@ pub difference-room : (a b x y : Items) → x ≡ a → y ≡ scaled (negsuc 0) 
 difference-room a b x y e f p q = omega (arith, ap norm e, ap norm f, normal-norm a p, normal-norm b q, scaled-norm (negsuc 0) b)
 
 pub scale-room : (c : ℤ) (a x : Items) → unsigned_abs c ≤ 2 ^ 63 → x ≡ a → is_normal a ≡ true → unsigned_abs c * norm x < 2 ^ 127
-scale-room c a x h e p = omega (arith, ap norm e, most (unsigned_abs c) (norm a) (2 ^ 63) (2 ^ 48) h (normal-norm a p),
-    ap (λ n. unsigned_abs c * n) (ap norm e))
+scale-room c a x h e p = omega (
+  arith,
+  ap norm e,
+  most (unsigned_abs c) (norm a) (2 ^ 63) (2 ^ 48) h (normal-norm a p),
+  ap (λ n. unsigned_abs c * n) (ap norm e),
+)
   where
     most : (a b c d : ℕ) → a ≤ c → b ≤ d → a * b ≤ c * d
     most a b c d p q = grind arith

@@ -66,14 +66,24 @@ module _ (s v maxima most : List ℕ) (ws : WithinMaxima s maxima) (wv : WithinM
   size_up : (k : ℕ) → AtomUp (Size k)
   size_up k o h =
       let w = ws k (below k (length maxima) (sym (scoped-Size (length maxima) (length most) k) ∙ h)) in
-      record { number = slice_index s k; is = value-Size s v k; most = omega (arith, w.0, mag-Size maxima most k); positive =
-          omega (arith, w.1, mag-Size maxima most k) }
+      record {
+        number = slice_index s k;
+        is = value-Size s v k;
+        most = omega (arith, w.0, mag-Size maxima most k);
+        positive =
+            omega (arith, w.1, mag-Size maxima most k);
+      }
 
   var_up : (k : ℕ) → AtomUp (Var k)
   var_up k o h =
       let w = wv k (below k (length most) (sym (scoped-Var (length maxima) (length most) k) ∙ h)) in
-      record { number = slice_index v k; is = value-Var s v k; most = omega (arith, w.0, mag-Var maxima most k); positive =
-          omega (arith, w.1, mag-Var maxima most k) }
+      record {
+        number = slice_index v k;
+        is = value-Var s v k;
+        most = omega (arith, w.0, mag-Var maxima most k);
+        positive =
+            omega (arith, w.1, mag-Var maxima most k);
+      }
 
   quotient-least : (n k : ℕ) → n / k ≤ n
   quotient-least n k = div-le_self n k
@@ -99,13 +109,18 @@ module _ (s v maxima most : List ℕ) (ws : WithinMaxima s maxima) (wv : WithinM
   factors_up (f ∷ fs) h o g =
       let gs = and_parts (atom_scoped (length maxima) (length most) f) (all_true (map (atom_scoped (length maxima) (length most)) fs)) g in
       product-up (atom_value s v f) (factors_value s v fs) (atom_magnitude maxima most f) (factors_magnitude maxima most fs) (h.0 o.0 gs.0)
-          (factors_up fs h.1 o.1 gs.1)
+      (factors_up fs h.1 o.1 gs.1)
 
   mul_up : (fs : List Atom) → Each AtomUp fs → AtomUp (Mul fs)
   mul_up fs h o g =
       let u = factors_up fs h (mul_parts fs o).good.ordered (sym (scoped-Mul (length maxima) (length most) fs) ∙ g) in
-      record { number = u.number; is = value-Mul s v fs ∙ u.is; most = omega (arith, u.most, mag-Mul maxima most fs); positive =
-          omega (arith, u.positive, mag-Mul maxima most fs) }
+      record {
+        number = u.number;
+        is = value-Mul s v fs ∙ u.is;
+        most = omega (arith, u.most, mag-Mul maxima most fs);
+        positive =
+            omega (arith, u.positive, mag-Mul maxima most fs);
+      }
 
   item_up : (k : ℕ) (c : ℤ) (x : ℤ) (m : ℕ) → is_remainder k c ≡ true → UpTo x m → Part (c *ℤ x) (unsigned_abs c * m)
   item_up k (pos n) x m r u = record { number = n * u.number; is = ap (λ z. pos n *ℤ z) u.is; most = both n u.number m u.most }

@@ -335,5 +335,5 @@ product-ordered a b oa ob n =
     (good-Mul fs ∙ and_from (nat_le 2 (length fs)) _ (two_from (length fs) two)
     (and_from (all_base fs) _ (each-base fs (factors-each Base (factors_of a) (factors_of b) ga.base gb.base))
     (and_from (factors_in_order fs) (one_var fs) (factors-in_order fs (factors-sorted (factors_of a) (factors_of b) ga.sorted gb.sorted))
-        (one_var-from fs (one_product a b oa ob n)))))
+    (one_var-from fs (one_product a b oa ob n)))))
     (each-every fs (factors-each Ordered (factors_of a) (factors_of b) ga.ordered gb.ordered))

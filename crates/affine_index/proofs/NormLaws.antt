@@ -77,8 +77,11 @@ module _ (k : ℕ) (h : 0 < k) where
   merged-parts (a ∷ as') bs = onto-parts a as' bs (merged-parts as')
 
   pub sum-size : (a b : Items) → size (sum_of a b) ≤ size a + size b
-  sum-size a b = omega (arith, merged-parts a.terms b.terms,
-      begun-sum k (unsigned_abs a.constant) (unsigned_abs b.constant) (unsigned_abs (a.constant +ℤ b.constant)) h (abs-sum a.constant b.constant))
+  sum-size a b = omega (
+    arith,
+    merged-parts a.terms b.terms,
+    begun-sum k (unsigned_abs a.constant) (unsigned_abs b.constant) (unsigned_abs (a.constant +ℤ b.constant)) h (abs-sum a.constant b.constant),
+  )
 
   begun-times : (c d : ℤ) → unsigned_abs c ≤ k → begun k (unsigned_abs (c *ℤ d)) ≤ unsigned_abs d
   begun-times c d p = begun-least k (unsigned_abs (c *ℤ d)) (unsigned_abs d) h
@@ -167,8 +170,13 @@ atom_products-norm x [] = refl
 atom_products-norm x (t ∷ ts) = omega (arith, atom_products-norm x ts, atom-norm (atom_product x t.atom))
 
 pub atom_times-norm : (x : Atom) (b : Items) → norm (atom_times x b) ≤ norm b
-atom_times-norm x b = omega (arith, add_up-norm (atom_products x b.terms) (scaled b.constant (of_atom x)), atom_products-norm x b.terms,
-    scaled-norm b.constant (of_atom x), atom-norm x)
+atom_times-norm x b = omega (
+  arith,
+  add_up-norm (atom_products x b.terms) (scaled b.constant (of_atom x)),
+  atom_products-norm x b.terms,
+  scaled-norm b.constant (of_atom x),
+  atom-norm x,
+)
 
 times-most : (c m n : ℕ) → m ≤ n → c * m ≤ c * n
 times-most c m n p = grind arith
@@ -188,8 +196,12 @@ quotient_atom-norm (t ∷ ts) c k = omega arith
 -- the quotient has at most as many ones as the form has k's, and one
 pub quotient-size : (i : Items) (k : ℕ) (h : 0 < k) → norm (quotient_of i k) ≤ size k h i + 1
 quotient-size i k h =
-    omega (arith, sum-norm (whole_part i k) (quotient_atom (rest_part i k).terms (rest_part i k).constant k), whole_part-norm k h i,
-        quotient_atom-norm (rest_part i k).terms (rest_part i k).constant k)
+    omega (
+      arith,
+      sum-norm (whole_part i k) (quotient_atom (rest_part i k).terms (rest_part i k).constant k),
+      whole_part-norm k h i,
+      quotient_atom-norm (rest_part i k).terms (rest_part i k).constant k,
+    )
 
 begun-most : (k n : ℕ) → 0 < k → begun k n ≤ n
 begun-most k n h = begun-least k n n h (more k n h)

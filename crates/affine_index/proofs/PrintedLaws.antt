@@ -111,7 +111,7 @@ module _ (limit : ℕ) (s v maxima most : List ℕ) (ws : WithinMaxima s maxima)
       let inside : magnitude maxima most i ≤ limit = omega (arith, alone b (atom_magnitude maxima most (Div i k)) one, q, mag-Div maxima most i k) in
       times-Div i k c
       ∙ ap (option_and_then (λ w. within limit (c *ℤ int_div_euclid w (pos k))))
-          (h (ordered-Div i k o).1 (sym (scoped-Div (length maxima) (length most) i k) ∙ g) inside)
+      (h (ordered-Div i k o).1 (sym (scoped-Div (length maxima) (length most) i k) ∙ g) inside)
       ∙ ap (λ x. within limit (c *ℤ x)) (sym (value-Div s v i k)) ∙ plain (Div i k) c b o g p q
 
   factors-one : (fs : List Atom) → Each Ordered fs → all_true (map (atom_scoped (length maxima) (length most)) fs) ≡ true → 1 ≤ factors_magnitude maxima most fs
@@ -142,7 +142,7 @@ module _ (limit : ℕ) (s v maxima most : List ℕ) (ws : WithinMaxima s maxima)
   mul_prints fs h o g c b one p q =
       times-Mul fs c
       ∙ through-prints fs h (mul_parts fs o).good.ordered (sym (scoped-Mul (length maxima) (length most) fs) ∙ g) c b one p
-          (omega (arith, ap (λ n. b * n) (mag-Mul maxima most fs), q))
+      (omega (arith, ap (λ n. b * n) (mag-Mul maxima most fs), q))
       ∙ ap (λ x. Some (c *ℤ x)) (sym (value-Mul s v fs))
 
   -- of the items with positive coefficients, and of the others: the sum of the values, and of the magnitudes
@@ -264,7 +264,7 @@ module _ (limit : ℕ) (s v maxima most : List ℕ) (ws : WithinMaxima s maxima)
       let x = atom_value s v t.atom in
       let z = pos (unsigned_abs t.coefficient) *ℤ x in
       let opposite : item t +ℤ z ≡ pos 0 = sym (*ℤ_distrib t.coefficient (pos (unsigned_abs t.coefficient)) x) ∙ ap (λ c. c *ℤ x) (other-is t.coefficient e)
-          ∙ zero-*ℤ x in
+      ∙ zero-*ℤ x in
       let turned : total -ℤ z ≡ total +ℤ item t = omega (arith, ints, opposite) in
       ap (minus limit total) (item-prints t h o g (omega (arith, q)))
       ∙ ap (within limit) turned
@@ -330,7 +330,7 @@ module _ (limit : ℕ) (s v maxima most : List ℕ) (ws : WithinMaxima s maxima)
   printed_from i u =
       option_and_then
       (λ a. option_and_then (λ d. option_and_then (λ e. take_constant limit i.constant e) (take_others limit (map printed_term i.terms) d))
-          (add_constant limit i.constant a))
+      (add_constant limit i.constant a))
       (add_positive limit (map printed_term i.terms) u)
 
   abbrev PrintsFrom : Items → ℤ → Type 0
@@ -356,10 +356,10 @@ module _ (limit : ℕ) (s v maxima most : List ℕ) (ws : WithinMaxima s maxima)
       let size-y = others-most ts goods sc in
       let size-px = abs-sum p x in
       ap (option_and_then (λ a. option_and_then (λ d. option_and_then (λ e. take_constant limit c e) (take_others limit (map printed_term ts) d))
-          (add_constant limit c a)))
+      (add_constant limit c a)))
       (add-prints ts u h goods sc (omega (arith, room)))
       ∙ ap (option_and_then (λ d. option_and_then (λ e. take_constant limit c e) (take_others limit (map printed_term ts) d)))
-          (add-constant c p b refl (omega (arith, room, size-p)))
+      (add-constant c p b refl (omega (arith, room, size-p)))
       ∙ ap (option_and_then (λ e. take_constant limit c e)) (take-prints ts (p +ℤ x) h goods sc (omega (arith, room, size-p, size-x, size-px)))
       ∙ take-constant c ((p +ℤ x) +ℤ y) b refl (omega (arith, room, size-p, size-x, size-y, size-px, abs-sum (p +ℤ x) y))
       ∙ ap Some (omega (arith, ints, both_values ts, halves b c, items_value-is s v i))

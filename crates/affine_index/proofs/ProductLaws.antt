@@ -35,7 +35,7 @@ pub ruleset product_laws = (factors-Less, factors-Equal, factors-Greater, factor
 
 pub atom_times-step : (x : Atom) (ts : List (Item Atom)) (at : ℕ) (t : Item Atom) (start : Items) → at < length ts → t ≡ get_or ts at t
     → add_up (atom_products x (drop (at + 1) ts)) (sum_of start (scaled t.coefficient (of_atom (atom_product x t.atom)))) ≡ add_up
-        (atom_products x (drop at ts)) start
+    (atom_products x (drop at ts)) start
 atom_times-step x ts at t start h e = ap (λ us. add_up (atom_products x us) start) (sym (drop-item ts at t h e))
 
 pub norm-step : (ts : List (Item Atom)) (at : ℕ) (t : Item Atom) → at < length ts → t ≡ get_or ts at t

@@ -61,7 +61,7 @@ pub add_up-ordered : (ts : List (Item Items)) (start : Items) → EachForm (λ i
 add_up-ordered [] start h s = s
 add_up-ordered (t ∷ ts) start h s =
     add_up-ordered ts (sum_of start (scaled t.coefficient t.atom)) h.1
-        (sum-ordered start (scaled t.coefficient t.atom) s (scaled-ordered t.coefficient t.atom h.0))
+    (sum-ordered start (scaled t.coefficient t.atom) s (scaled-ordered t.coefficient t.atom h.0))
 
 -- products of terms that do not both hold an index variable
 abbrev pub Apart : Items → Items → Type 0
@@ -115,7 +115,7 @@ term_products-ordered (t ∷ ts) b h o p =
 pub products-ordered : (a b : Items) → is_ordered a ≡ true → is_ordered b ≡ true → Apart a b → is_ordered (product_of a b) ≡ true
 products-ordered a b oa ob p =
     add_up-ordered (term_products a.terms b) (scaled a.constant b) (term_products-ordered a.terms b (atoms-ordered a.terms (ordered-terms a oa).1) ob p)
-        (scaled-ordered a.constant b ob)
+    (scaled-ordered a.constant b ob)
 
 atom_products-free : (x : Atom) (ts : List (Item Atom)) → NoVar x → FreeTerms ts → EachForm Free (atom_products x ts)
 atom_products-free x [] n h = tt

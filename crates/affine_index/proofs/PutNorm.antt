@@ -92,8 +92,14 @@ module _ (f : ℕ → Items) (W : ℕ) (two : 2 ≤ W) (given : (v : ℕ) → no
       let b = and_parts (nat_le k 2147483647) _ a.1 in
       let c = and_parts (has_items i.terms) _ b.1 in
       let d = and_parts (all_remainders k i.terms) (is_remainder k i.constant) c.1 in
-      omega (arith, ap norm (put-Div f i k), quotient-size (put_all f i) k bounds.0, h parts.1 k bounds.0 d.0 d.1,
-          ap (λ n. n * W) (count-Div i k ∙ ap (λ n. n + 1) (count-items i)), two)
+      omega (
+        arith,
+        ap norm (put-Div f i k),
+        quotient-size (put_all f i) k bounds.0,
+        h parts.1 k bounds.0 d.0 d.1,
+        ap (λ n. n * W) (count-Div i k ∙ ap (λ n. n + 1) (count-items i)),
+        two,
+      )
 
   one_norm : (g : Atom) → Ordered g → NoVar g → norm (put_atom f g) ≡ 1
   one_norm g o n = ap norm (put_atom-free f g o n)
@@ -101,8 +107,12 @@ module _ (f : ℕ → Items) (W : ℕ) (two : 2 ≤ W) (given : (v : ℕ) → no
   free_norm : (gs : List Atom) → Each Ordered gs → Each NoVar gs → norm (product_of_all (map (put_atom f) gs)) ≤ 1
   free_norm [] o n = omega arith
   free_norm (g ∷ gs) o n =
-      omega (arith, product-norm (put_atom f g) (product_of_all (map (put_atom f) gs)),
-          ap (λ x. x * norm (product_of_all (map (put_atom f) gs))) (one_norm g o.0 n.0), free_norm gs o.1 n.1)
+      omega (
+        arith,
+        product-norm (put_atom f g) (product_of_all (map (put_atom f) gs)),
+        ap (λ x. x * norm (product_of_all (map (put_atom f) gs))) (one_norm g o.0 n.0),
+        free_norm gs o.1 n.1,
+      )
 
   times-one : (m n p : ℕ) → m ≤ p → n ≤ 1 → m * n ≤ p
   times-one m n p h k = grind arith
@@ -113,16 +123,27 @@ module _ (f : ℕ → Items) (W : ℕ) (two : 2 ≤ W) (given : (v : ℕ) → no
 
   by_free : (g : Atom) (gs : List Atom) → Ordered g → NoVar g → FewOr gs → FewOr (g ∷ gs)
   by_free g gs o n (inl r) = inl
-      (omega (arith, product-norm (put_atom f g) (product_of_all (map (put_atom f) gs)),
-      ap (λ x. x * norm (product_of_all (map (put_atom f) gs))) (one_norm g o n), r))
+      (omega (
+        arith,
+        product-norm (put_atom f g) (product_of_all (map (put_atom f) gs)),
+        ap (λ x. x * norm (product_of_all (map (put_atom f) gs))) (one_norm g o n),
+        r,
+      ))
   by_free g gs o n (inr r) = inr
-      (omega (arith, product-norm (put_atom f g) (product_of_all (map (put_atom f) gs)),
-      ap (λ x. x * norm (product_of_all (map (put_atom f) gs))) (one_norm g o n), r))
+      (omega (
+        arith,
+        product-norm (put_atom f g) (product_of_all (map (put_atom f) gs)),
+        ap (λ x. x * norm (product_of_all (map (put_atom f) gs))) (one_norm g o n),
+        r,
+      ))
 
   by_one : (g : Atom) (gs : List Atom) → Each Ordered gs → Each NoVar gs → norm (put_atom f g) ≤ atom_count g * W → FewOr (g ∷ gs)
   by_one g gs o n h =
-      inr (omega (arith, product-norm (put_atom f g) (product_of_all (map (put_atom f) gs)),
-          times-one (norm (put_atom f g)) (norm (product_of_all (map (put_atom f) gs))) (atom_count g * W) h (free_norm gs o n)))
+      inr (omega (
+        arith,
+        product-norm (put_atom f g) (product_of_all (map (put_atom f) gs)),
+        times-one (norm (put_atom f g)) (norm (product_of_all (map (put_atom f) gs))) (atom_count g * W) h (free_norm gs o n),
+      ))
 
   pub factors_norm : (fs : List Atom) → Each Ordered fs → OneVar fs → Each AtomSmall fs → FewOr fs
   factors_norm [] o n h = inl (omega arith)
@@ -152,14 +173,23 @@ module _ (f : ℕ → Items) (W : ℕ) (two : 2 ≤ W) (given : (v : ℕ) → no
   terms_small k h (t ∷ ts) start s g r =
       let x = put_atom f t.atom in
       let rs = and_parts (is_remainder k t.coefficient) (all_remainders k ts) r in
-      omega (arith, terms_small k h ts (sum_of start (scaled t.coefficient x)) s.1 g.1 rs.1, sum-size k h start (scaled t.coefficient x),
-          scaled-size k h t.coefficient x (remainder-size k t.coefficient rs.0), s.0 g.0.0)
+      omega (
+        arith,
+        terms_small k h ts (sum_of start (scaled t.coefficient x)) s.1 g.1 rs.1,
+        sum-size k h start (scaled t.coefficient x),
+        scaled-size k h t.coefficient x (remainder-size k t.coefficient rs.0),
+        s.0 g.0.0,
+      )
 
   form_small : (ts : List (Item Atom)) (c : ℤ) → EachTerm AtomSmall ts → FormSmall (record { terms = ts; constant = c })
   form_small ts c s o k h r q =
       let i : Items = record { terms = ts; constant = c } in
-      omega (arith, ap (size k h) (put-items f i), terms_small k h ts (literal_form c) s (ordered-terms i o).1 r,
-          begun-least k (unsigned_abs c) 1 h (omega (arith, remainder-size k c q)))
+      omega (
+        arith,
+        ap (size k h) (put-items f i),
+        terms_small k h ts (literal_form c) s (ordered-terms i o).1 r,
+        begun-least k (unsigned_abs c) 1 h (omega (arith, remainder-size k c q)),
+      )
 
   pub atom_small : (a : Atom) → AtomSmall a
   atom_small = for_atoms AtomSmall FormSmall size_small var_small div_small mul_small form_small
@@ -170,8 +200,13 @@ module _ (f : ℕ → Items) (W : ℕ) (two : 2 ≤ W) (given : (v : ℕ) → no
   terms_most C [] start s g = omega arith
   terms_most C (t ∷ ts) start s g =
       let x = put_atom f t.atom in
-      omega (arith, terms_most C ts (sum_of start (scaled t.coefficient x)) s.1 g.1, sum-norm start (scaled t.coefficient x), scaled-norm t.coefficient x,
-          both (unsigned_abs t.coefficient) C (norm x) (atom_count t.atom * W) s.0 (atom_small t.atom g.0.0))
+      omega (
+        arith,
+        terms_most C ts (sum_of start (scaled t.coefficient x)) s.1 g.1,
+        sum-norm start (scaled t.coefficient x),
+        scaled-norm t.coefficient x,
+        both (unsigned_abs t.coefficient) C (norm x) (atom_count t.atom * W) s.0 (atom_small t.atom g.0.0),
+      )
     where
       both : (a b c d : ℕ) → a ≤ b → c ≤ d → a * c ≤ b * d
       both a b c d p q = grind arith

@@ -53,7 +53,7 @@ dividend-normal i k o n =
     let few : items_count i ≤ 128 = omega (arith, count-Div i k, n) in
     and_from (is_ordered i) _ parts.1 (and_from (coefficients_fit i) (is_short i)
     (and_from (terms_fit i.terms) (coefficient_fits i.constant) (remainders_fit k i.terms bounds.1 d.0) (remainder_fits k i.constant bounds.1 d.1))
-        (short_from (items_count i) few))
+    (short_from (items_count i) few))
 
 pub divisor-positive : (i : Items) (k : ℕ) → Ordered (Div i k) → 0 < k
 divisor-positive i k o = (divisor_bounds i k (ordered-Div i k o).0).0
@@ -141,9 +141,13 @@ module _ (f : ℕ → Items) (normal : (v : ℕ) → is_normal (f v) ≡ true) w
   pub put_all-norm : (i : Items) → is_normal i ≡ true → norm (put_all f i) ≤ 2 ^ 96
   put_all-norm i h =
       let p = normal_parts i h in
-      omega (arith, ap norm (put-items f i),
-          terms_most f (2 ^ 48) two small (2 ^ 40) i.terms (literal_form i.constant) (coefficients-most i.terms p.fits) (ordered-terms i p.ordered).1,
-          p.constant, p.short)
+      omega (
+        arith,
+        ap norm (put-items f i),
+        terms_most f (2 ^ 48) two small (2 ^ 40) i.terms (literal_form i.constant) (coefficients-most i.terms p.fits) (ordered-terms i p.ordered).1,
+        p.constant,
+        p.short,
+      )
 
   pub dividend-room : (i form : Items) → is_normal i ≡ true → form ≡ put_all f i → norm form + 1 < 2 ^ 127
   dividend-room i form h e = omega (arith, ap norm e, put_all-norm i h)
@@ -177,7 +181,7 @@ pub item_facts : (ts : List (Item Atom)) (at : ℕ) (t : Item Atom) → at < len
 item_facts ts at t h e o f n =
     let d = drop-item ts at t h e in
     let os = and_parts (atom_is_ordered t.atom) (terms_every atom_good items_good (drop (at + 1) ts))
-        (sym (ap (terms_every atom_good items_good) d) ∙ every-drop ts at o) in
+    (sym (ap (terms_every atom_good items_good) d) ∙ every-drop ts at o) in
     let fs = and_parts (coefficient_fits t.coefficient) (terms_fit (drop (at + 1) ts)) (sym (ap terms_fit d) ∙ fit-drop ts at f) in
     record { ordered = os.0; coefficient = fit_is t.coefficient fs.0; short = omega (arith, count-drop ts at, ap terms_count d, n) }
 
@@ -192,9 +196,12 @@ room ts = 2 ^ 40 * (terms_count ts * 2 ^ 48)
 module _ (f : ℕ → Items) (normal : (v : ℕ) → is_normal (f v) ≡ true) where
   pub item-size : (t : Item Atom) → ItemFacts t → norm (scaled t.coefficient (put_atom f t.atom)) ≤ 2 ^ 40 * (atom_count t.atom * 2 ^ 48)
   item-size t g =
-      omega (arith, scaled-norm t.coefficient (put_atom f t.atom),
-          most (unsigned_abs t.coefficient) (norm (put_atom f t.atom)) (2 ^ 40) (atom_count t.atom * 2 ^ 48) g.coefficient
-          (atom_small f (2 ^ 48) (omega arith) (λ v. normal-norm (f v) (normal v)) t.atom g.ordered))
+      omega (
+        arith,
+        scaled-norm t.coefficient (put_atom f t.atom),
+        most (unsigned_abs t.coefficient) (norm (put_atom f t.atom)) (2 ^ 40) (atom_count t.atom * 2 ^ 48) g.coefficient
+            (atom_small f (2 ^ 48) (omega arith) (λ v. normal-norm (f v) (normal v)) t.atom g.ordered),
+      )
 
   pub room-next : (ts : List (Item Atom)) (at : ℕ) (t : Item Atom) → at < length ts → t ≡ get_or ts at t → ItemFacts t
       → norm (scaled t.coefficient (put_atom f t.atom)) + room (drop (at + 1) ts) ≤ room (drop at ts)
@@ -202,8 +209,11 @@ module _ (f : ℕ → Items) (normal : (v : ℕ) → is_normal (f v) ≡ true) w
 
   pub scaled-fits : (t : Item Atom) (form : Items) → ItemFacts t → form ≡ put_atom f t.atom → unsigned_abs t.coefficient * norm form < 2 ^ 127
   scaled-fits t form g e =
-      omega (arith, ap (λ i. unsigned_abs t.coefficient * norm i) e,
-          most (unsigned_abs t.coefficient) (norm (put_atom f t.atom)) (2 ^ 40) (2 ^ 55) g.coefficient (put_atom-norm f normal t.atom g.ordered g.short))
+      omega (
+        arith,
+        ap (λ i. unsigned_abs t.coefficient * norm i) e,
+        most (unsigned_abs t.coefficient) (norm (put_atom f t.atom)) (2 ^ 40) (2 ^ 55) g.coefficient (put_atom-norm f normal t.atom g.ordered g.short),
+      )
 
 pub product-drop : (f : ℕ → Items) (fs : List Atom) {m n : ℕ} → m ≡ n
     → product_of_all (map (put_atom f) (drop m fs)) ≡ product_of_all (map (put_atom f) (drop n fs))

@@ -56,21 +56,27 @@ module _ (s v w : List ℕ) (f : ℕ → Items) (law : (k : ℕ) → items_value
   mul_keeps : (fs : List Atom) → Each AtomKeeps fs → AtomKeeps (Mul fs)
   mul_keeps fs h o =
       ap (items_value s w) (put-Mul f fs) ∙ value-product_of_all s w (map (put_atom f) fs) ∙ all_keep fs h (mul_parts fs o).good.ordered
-          ∙ sym (value-Mul s v fs)
+      ∙ sym (value-Mul s v fs)
 
   terms_keep : (ts : List (Item Atom)) (start : Items) → EachTerm AtomKeeps ts → EachItem GoodItem ts
       → items_value s w (put_terms f ts start) ≡ items_value s w start +ℤ terms_value s v ts
   terms_keep [] start h g = omega (arith, ints)
   terms_keep (t ∷ ts) start h g =
       let x = put_atom f t.atom in
-      omega (arith, ints, terms_keep ts (sum_of start (scaled t.coefficient x)) h.1 g.1, sum_of-value s w start (scaled t.coefficient x),
-          value-scaled s w t.coefficient x, ap (λ z. t.coefficient *ℤ z) (h.0 g.0.0))
+      omega (
+        arith,
+        ints,
+        terms_keep ts (sum_of start (scaled t.coefficient x)) h.1 g.1,
+        sum_of-value s w start (scaled t.coefficient x),
+        value-scaled s w t.coefficient x,
+        ap (λ z. t.coefficient *ℤ z) (h.0 g.0.0),
+      )
 
   form_keeps : (ts : List (Item Atom)) (c : ℤ) → EachTerm AtomKeeps ts → FormKeeps (record { terms = ts; constant = c })
   form_keeps ts c h o =
       let i : Items = record { terms = ts; constant = c } in
       ap (items_value s w) (put-items f i)
-          ∙ omega (arith, ints, terms_keep ts (literal_form c) h (ordered-terms i o).1, value-literal s w c, items_value-is s v i)
+      ∙ omega (arith, ints, terms_keep ts (literal_form c) h (ordered-terms i o).1, value-literal s w c, items_value-is s v i)
 
   -- a form where each variable has the value of what is put for it
   pub value-put_all : (i : Items) → FormKeeps i
@@ -104,14 +110,14 @@ module _ (s w : List ℕ) where
       choose false e =
           let le = above_is k from e in
           sym (get_or-append_right (take from w) (drop (from + by) w) from k 0 long le ∙ get_or-drop (from + by) w (k - from) 0
-              ∙ ap (λ n. get_or w n 0) (reach from by k le))
+          ∙ ap (λ n. get_or w n 0) (reach from by k le))
 
   -- moved variables have the values that the others had
   pub value-shifted : (from by : ℕ) (i : Items) → from ≤ length w → is_ordered i ≡ true
       → items_value s w (shifted from by i) ≡ items_value s (take from w ++ drop (from + by) w) i
   value-shifted from by i h =
       value-put_all s (take from w ++ drop (from + by) w) w (moved from by)
-          (λ k. value-var_form (cond (nat_lt k from) k (k + by)) ∙ ap pos (skipped from by k h)) i
+      (λ k. value-var_form (cond (nat_lt k from) k (k + by)) ∙ ap pos (skipped from by k h)) i
 
   one_value : (v : ℕ) (by : Items) (n k : ℕ) (o : Ordering) → MatchOrdering o (k < v) (k ≡ v) (v < k) → v ≤ length w → items_value s w by ≡ pos n
       → items_value s w (one_by o by k) ≡ pos (get_or (insert w v n) k 0)

@@ -19,8 +19,12 @@ use Rattle.affine_index.specs.declared.form.Items.{Items}
 
 pub quotient-norm : (i : Items) (k : ℕ) → 0 < k → norm (quotient_of i k) ≤ norm i + 1
 quotient-norm i k h =
-    omega (arith, sum-norm (whole_part i k) (quotient_atom (rest_part i k).terms (rest_part i k).constant k), whole-most i k h,
-        quotient_atom-norm (rest_part i k).terms (rest_part i k).constant k)
+    omega (
+      arith,
+      sum-norm (whole_part i k) (quotient_atom (rest_part i k).terms (rest_part i k).constant k),
+      whole-most i k h,
+      quotient_atom-norm (rest_part i k).terms (rest_part i k).constant k,
+    )
 
 most : (a b c d : ℕ) → a ≤ b → c ≤ d → a * c ≤ b * d
 most a b c d p q = grind arith
@@ -40,8 +44,15 @@ module _ (i : Items) (k : ℕ) (normal : is_normal i ≡ true) (positive : 0 < k
 
   pub minus-room : (x y : Items) → x ≡ i → y ≡ scaled (negsuc 0) (scaled (pos k) (quotient_of i k)) → norm x + norm y < 2 ^ 127
   minus-room x y e f =
-      omega (arith, ap norm e, ap norm f, scaled-norm (negsuc 0) (scaled (pos k) (quotient_of i k)), scaled-norm (pos k) (quotient_of i k), times_norm,
-          normal-norm i normal)
+      omega (
+        arith,
+        ap norm e,
+        ap norm f,
+        scaled-norm (negsuc 0) (scaled (pos k) (quotient_of i k)),
+        scaled-norm (pos k) (quotient_of i k),
+        times_norm,
+        normal-norm i normal,
+      )
 
   pub remainder-ordered : (x : Items) → x ≡ remainder_of i k → is_ordered x ≡ true
   remainder-ordered x e =
@@ -50,5 +61,11 @@ module _ (i : Items) (k : ℕ) (normal : is_normal i ≡ true) (positive : 0 < k
 
 pub value-remainder : (s v : List ℕ) (i : Items) (k : ℕ) → 0 < k → items_value s v (remainder_of i k) ≡ int_rem_euclid (items_value s v i) (pos k)
 value-remainder s v i k h =
-    omega (arith, ints, value-difference s v i (scaled (pos k) (quotient_of i k)), value-scaled s v (pos k) (quotient_of i k),
-        ap (λ z. pos k *ℤ z) (value-quotient s v i k h), quotient-rest k (items_value s v i) h)
+    omega (
+      arith,
+      ints,
+      value-difference s v i (scaled (pos k) (quotient_of i k)),
+      value-scaled s v (pos k) (quotient_of i k),
+      ap (λ z. pos k *ℤ z) (value-quotient s v i k h),
+      quotient-rest k (items_value s v i) h,
+    )

@@ -97,7 +97,7 @@ module _ (m : ℕ → ℕ) (rising : (v w : ℕ) → nat_cmp (m v) (m w) ≡ nat
       (λ t. simp (renamed-Size, renamed-Div, order-out, out-Size, out-Div))
       (λ w. simp (renamed-Var, renamed-Div, order-out, out-Var, out-Div))
       (λ j l. (λ n. atom_order (renamed-Div i k n) (renamed-Div j l n)) ∙ order-Div (renamed i) k (renamed j) l ∙ ap (ordering_then (nat_cmp k l)) (h j)
-          ∙ sym (order-Div i k j l))
+      ∙ sym (order-Div i k j l))
       (λ gs. simp (renamed-Div, renamed-Mul, order-out, out-Div, out-Mul))
 
   factors_order_kept : (fs gs : List Atom) → Each KeepsOrder fs → factors_order (map renamed_atom fs) (map renamed_atom gs) ≡ factors_order fs gs
@@ -112,7 +112,7 @@ module _ (m : ℕ → ℕ) (rising : (v w : ℕ) → nat_cmp (m v) (m w) ≡ nat
       (λ w. simp (renamed-Var, renamed-Mul, order-out, out-Var, out-Mul))
       (λ j l. simp (renamed-Div, renamed-Mul, order-out, out-Div, out-Mul))
       (λ gs. (λ n. atom_order (renamed-Mul fs n) (renamed-Mul gs n)) ∙ order-Mul (map renamed_atom fs) (map renamed_atom gs) ∙ factors_order_kept fs gs h
-          ∙ sym (order-Mul fs gs))
+      ∙ sym (order-Mul fs gs))
 
   terms_order_kept : (ts us : List (Item Atom)) → EachTerm KeepsOrder ts
       → terms_order (with_atoms renamed_atom ts) (with_atoms renamed_atom us) ≡ terms_order ts us

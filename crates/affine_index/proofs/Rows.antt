@@ -27,8 +27,34 @@ use Rattle.affine_index.specs.declared.form.Atom.{Atom}
 use Rattle.affine_index.specs.declared.form.Items.{Items}
 use Rattle.affine_index.specs.declared.form.Atom.TheVariants.{Size, Var, Div, Mul}
 
-ruleset row_laws = (order-items, order-out, out-Size, out-Var, out-Div, out-Mul, put-Size, put-Var, put-Div, put-Mul, put-items, every-Size, every-Var,
-    every-Div, every-Mul, every-items, count-Size, count-Var, count-Div, count-Mul, count-items, vars-Size, vars-Var, vars-Div, vars-Mul, vars-items)
+ruleset row_laws = (
+  order-items,
+  order-out,
+  out-Size,
+  out-Var,
+  out-Div,
+  out-Mul,
+  put-Size,
+  put-Var,
+  put-Div,
+  put-Mul,
+  put-items,
+  every-Size,
+  every-Var,
+  every-Div,
+  every-Mul,
+  every-items,
+  count-Size,
+  count-Var,
+  count-Div,
+  count-Mul,
+  count-items,
+  vars-Size,
+  vars-Var,
+  vars-Div,
+  vars-Mul,
+  vars-items,
+)
 
 -- one item and a constant
 abbrev one : ℤ → Atom → ℤ → Items

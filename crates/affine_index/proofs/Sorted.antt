@@ -83,9 +83,11 @@ onto-sorted a as' (b ∷ bs) sa sb h = by_order (atom_order a.atom b.atom) refl 
     by_order Less e later =
         (merged-each (Before a.atom) (before-closed a.atom) as' (b ∷ bs) sa (e, all_after a.atom b.atom bs e sb.0), h (b ∷ bs) sb)
     by_order Greater e later =
-        let f : atom_order b.atom a.atom ≡ Less = turned a.atom b.atom e in
-        (onto-each (Before b.atom) (before-closed b.atom) a as' bs f sb.0
-            (λ cs hc. merged-each (Before b.atom) (before-closed b.atom) as' cs (all_after b.atom a.atom as' f sa) hc), later)
+        let f : atom_order b.atom a.atom ≡ Less = turned a.atom b.atom e in (
+          onto-each (Before b.atom) (before-closed b.atom) a as' bs f sb.0
+              (λ cs hc. merged-each (Before b.atom) (before-closed b.atom) as' cs (all_after b.atom a.atom as' f sa) hc),
+          later,
+        )
     by_order Equal e later =
         let same : b.atom ≡ a.atom = sym (atom_order-Equal a.atom b.atom e) in
         item_if-sorted (int_eq (a.coefficient +ℤ b.coefficient) (pos 0)) (added a b) (merged as' bs)

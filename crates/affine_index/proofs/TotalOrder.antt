@@ -129,7 +129,7 @@ div_case i k h b xs ys = by_kind (λ b. compare (write (Div i k) xs) (write b ys
     (λ t. simp (write-Size, write-Div, order-out, out-Size, out-Div))
     (λ w. simp (write-Var, write-Div, order-out, out-Var, out-Div))
     (λ j l. simp (write-Div, order-out, out-Div, size_cmp)
-        (ap (ordering_then (nat_cmp k l)) (h j xs ys) ∙ then_again (nat_cmp k l) (items_order i j) (compare xs ys)))
+    (ap (ordering_then (nat_cmp k l)) (h j xs ys) ∙ then_again (nat_cmp k l) (items_order i j) (compare xs ys)))
     (λ fs. simp (write-Div, write-Mul, order-out, out-Div, out-Mul)) b
 
 factors_write : (fs gs : List Atom) (xs ys : List ℤ) → Each AtomWrites fs
@@ -139,7 +139,7 @@ factors_write [] (g ∷ gs) xs ys h = refl
 factors_write (f ∷ fs) [] xs ys h = refl
 factors_write (f ∷ fs) (g ∷ gs) xs ys h =
     h.0 g (write_all fs xs) (write_all gs ys) ∙ ap (ordering_then (atom_order f g)) (factors_write fs gs xs ys h.1)
-        ∙ then_again (atom_order f g) (factors_order fs gs) (compare xs ys)
+    ∙ then_again (atom_order f g) (factors_order fs gs) (compare xs ys)
 
 mul_case : (fs : List Atom) → Each AtomWrites fs → AtomWrites (Mul fs)
 mul_case fs h b xs ys = by_kind (λ b. compare (write (Mul fs) xs) (write b ys) ≡ ordering_then (atom_order (Mul fs) b) (compare xs ys))

@@ -82,8 +82,15 @@ module _ (s w : List ℕ) where
 
   -- the difference with the second value added again is the first
   pub value-difference : (a b : Items) → items_value s w (difference_of a b) +ℤ items_value s w b ≡ items_value s w a
-  value-difference a b = omega (arith, ints, sum_of-value s w a (scaled (negsuc 0) b), value-scaled (negsuc 0) b,
-      *ℤ_distrib (negsuc 0) (pos 1) (items_value s w b), one-times (items_value s w b), zero-*ℤ (items_value s w b))
+  value-difference a b = omega (
+    arith,
+    ints,
+    sum_of-value s w a (scaled (negsuc 0) b),
+    value-scaled (negsuc 0) b,
+    *ℤ_distrib (negsuc 0) (pos 1) (items_value s w b),
+    one-times (items_value s w b),
+    zero-*ℤ (items_value s w b),
+  )
 
   -- the values of forms, each with its coefficient
   abbrev pub each_value : List (Item Items) → ℤ
@@ -93,8 +100,13 @@ module _ (s w : List ℕ) where
   pub value-add_up : (ts : List (Item Items)) (start : Items) → items_value s w (add_up ts start) ≡ items_value s w start +ℤ each_value ts
   value-add_up [] start = omega (arith, ints)
   value-add_up (t ∷ ts) start =
-      omega (arith, ints, value-add_up ts (sum_of start (scaled t.coefficient t.atom)), sum_of-value s w start (scaled t.coefficient t.atom),
-          value-scaled t.coefficient t.atom)
+      omega (
+        arith,
+        ints,
+        value-add_up ts (sum_of start (scaled t.coefficient t.atom)),
+        sum_of-value s w start (scaled t.coefficient t.atom),
+        value-scaled t.coefficient t.atom,
+      )
 
   value-onto : (a : Atom) (as' bs : List Atom) → ((cs : List Atom) → factors_value (merged_factors as' cs) ≡ factors_value as' *ℤ factors_value cs)
       → factors_value (factor_onto a (merged_factors as') bs) ≡ (atom_value s w a *ℤ factors_value as') *ℤ factors_value bs
@@ -106,7 +118,7 @@ module _ (s w : List ℕ) where
 
       by_order : (o : Ordering) → factors_value (factor_onto a (merged_factors as') bs) ≡ (atom_value s w a *ℤ factors_value as') *ℤ factors_value bs
           → factors_value (factor_onto_by o a (merged_factors as') b bs (factor_onto a (merged_factors as') bs)) ≡ (atom_value s w a *ℤ factors_value as') *ℤ
-              factors_value (b ∷ bs)
+          factors_value (b ∷ bs)
       by_order Less later = front
       by_order Equal later = front
       by_order Greater later = ap (λ x. atom_value s w b *ℤ x) later ∙ swap (atom_value s w b) (atom_value s w a *ℤ factors_value as') (factors_value bs)
@@ -138,7 +150,7 @@ module _ (s w : List ℕ) where
   value-atom_times a b =
       value-add_up (atom_products a b.terms) (scaled b.constant (of_atom a))
       ∙ (λ k. (value-scaled b.constant (of_atom a) ∙ ap (λ x. b.constant *ℤ x) (value-of_atom a) ∙ *ℤ_comm b.constant (atom_value s w a)) k
-          +ℤ value-atom_products a b.terms k)
+      +ℤ value-atom_products a b.terms k)
       ∙ sym (times-plus (atom_value s w a) b.constant (terms_value s w b.terms))
       ∙ ap (λ x. atom_value s w a *ℤ x) (turn b.constant (terms_value s w b.terms) ∙ sym (items_value-is s w b))
     where
@@ -149,7 +161,7 @@ module _ (s w : List ℕ) where
   value-term_products [] b = sym (zero-*ℤ (items_value s w b))
   value-term_products (t ∷ ts) b =
       (λ k. (ap (λ x. t.coefficient *ℤ x) (value-atom_times t.atom b) ∙ sym (*ℤ_assoc t.coefficient (atom_value s w t.atom) (items_value s w b))) k
-          +ℤ value-term_products ts b k)
+      +ℤ value-term_products ts b k)
       ∙ sym (*ℤ_distrib (t.coefficient *ℤ atom_value s w t.atom) (terms_value s w ts) (items_value s w b))
 
   pub value-product : (a b : Items) → items_value s w (product_of a b) ≡ items_value s w a *ℤ items_value s w b
@@ -179,15 +191,30 @@ module _ (s w : List ℕ) where
       let x = atom_value s w t.atom in
       let a = terms_value s w (whole_terms k ts) in
       (λ j. (pos k *ℤ value-item_of t.atom q (whole_terms k ts) j) +ℤ value-item_of t.atom r (rest_terms k ts) j)
-      ∙ omega (arith, ints, times-plus (pos k) (q *ℤ x) a, *ℤ_assoc (pos k) q x, value-terms_parts k ts h, *ℤ_distrib (pos k *ℤ q) r x,
-          ap (λ c. c *ℤ x) (quotient-rest k t.coefficient h))
+      ∙ omega (
+        arith,
+        ints,
+        times-plus (pos k) (q *ℤ x) a,
+        *ℤ_assoc (pos k) q x,
+        value-terms_parts k ts h,
+        *ℤ_distrib (pos k *ℤ q) r x,
+        ap (λ c. c *ℤ x) (quotient-rest k t.coefficient h),
+      )
 
   value-parts : (k : ℕ) (i : Items) → 0 < k → (pos k *ℤ items_value s w (whole_part i k)) +ℤ items_value s w (rest_part i k) ≡ items_value s w i
   value-parts k i h =
       let q = int_div_euclid i.constant (pos k) in
       let a = terms_value s w (whole_terms k i.terms) in
-      omega (arith, ints, ap (λ x. pos k *ℤ x) (items_value-is s w (whole_part i k)), items_value-is s w (rest_part i k), items_value-is s w i,
-          times-plus (pos k) a q, value-terms_parts k i.terms h, quotient-rest k i.constant h)
+      omega (
+        arith,
+        ints,
+        ap (λ x. pos k *ℤ x) (items_value-is s w (whole_part i k)),
+        items_value-is s w (rest_part i k),
+        items_value-is s w i,
+        times-plus (pos k) a q,
+        value-terms_parts k i.terms h,
+        quotient-rest k i.constant h,
+      )
 
   value-quotient_atom : (ts : List (Item Atom)) (c : ℤ) (k : ℕ) → (ts ≡ [] → int_div_euclid c (pos k) ≡ pos 0)
       → items_value s w (quotient_atom ts c k) ≡ int_div_euclid (items_value s w (record { terms = ts; constant = c })) (pos k)

@@ -18,4 +18,4 @@ abbrev pub PrintsWithin : Items → Type 0
 PrintsWithin i =
     (limit : ℕ) (sizes vars maxima vars_maxima : List ℕ) → WithinMaxima sizes maxima → WithinMaxima vars vars_maxima
     → items_scoped (length maxima) (length vars_maxima) i ≡ true → magnitude maxima vars_maxima i ≤ limit
-        → printed_value limit sizes vars i ≡ Some (items_value sizes vars i)
+    → printed_value limit sizes vars i ≡ Some (items_value sizes vars i)

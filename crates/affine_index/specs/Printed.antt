@@ -68,7 +68,7 @@ module _ (limit : ℕ) where
     abbrev pub printed_items_step : Items-F (ℤ → Option ℤ) (Option ℤ) → Option ℤ
     printed_items_step i =
         option_and_then (λ a. option_and_then (λ b. option_and_then (λ c. take_constant i.constant c) (take_others i.terms b)) (add_constant i.constant a))
-            (add_positive i.terms (pos 0))
+        (add_positive i.terms (pos 0))
 
     -- a number times an atom, where no partial result passes the limit
     abbrev pub printed_times : Atom → ℤ → Option ℤ

@@ -84,8 +84,11 @@ module _ (s : List ℕ) where
           (scoped-there r vars x same g) (most (magnitude (at_least_one s) vars x) l))
 
   extent-most : (n : Items) → items_scoped (length s) 0 n ≡ true → extent n s ≤ magnitude (at_least_one s) [] n
-  extent-most n g = omega (arith, count-most (items_value s [] n),
-      form-most s [] (at_least_one s) [] (within-floor s) within-none n (scoped-there [] [] n refl g))
+  extent-most n g = omega (
+    arith,
+    count-most (items_value s [] n),
+    form-most s [] (at_least_one s) [] (within-floor s) within-none n (scoped-there [] [] n refl g),
+  )
 
   pub extent-small : (n : Items) → items_scoped (length s) 0 n ≡ true → is_large (at_least_one s) [] n ≡ false → extent n s < 2 ^ 63
   extent-small n g l = omega (arith, extent-most n g, small-of (magnitude (at_least_one s) [] n) l)

@@ -101,7 +101,7 @@ module _ (s : List ℕ) where
   own-small : (e : Term) (v t : ℕ) (vars : List ℕ) (ts : List Extents) (ds : List (List ℕ)) (ms : Extents) → term_scoped places e v t ≡ true
       → shape_of e ts ≡ Ok ms → NoneNegative s (term_goals e ts)
       → each_scoped places ts ≡ true → AllHaveValues s ts ds → any_large (at_least_one s) (surveyed s e vars ts).extents ≡ false
-          → head_of (dims e s ds) < 2 ^ 64
+      → head_of (dims e s ds) < 2 ^ 64
   own-small e v t vars ts ds ms c h g z f l =
       first-small ms (dims e s ds) (shape-scoped-all e v t vars ts ms c h z)
       (ap (any_large (at_least_one s)) (sym (extents-are s e vars ts ms h)) ∙ l) (shape_meant s places e v t ts ds ms c h g f).0
@@ -114,33 +114,33 @@ module _ (s : List ℕ) where
   fits-all (WordOf x) v t vars ts ds ms c' h g z f l = ap (λ d. d.fits ds) (fold-word_of Denoted (denoted_step s) x)
   fits-all (index e x) v t vars ts ds ms c' h g z f l =
       let none = none-at s _ (is_large (at_least_one s) vars x) (surveyed s e vars ts).big
-          (sym (ap (λ f. (f vars ts).big) (fold-index Survey (surveyed_step s) e x)) ∙ l) in
+      (sym (ap (λ f. (f vars ts).big) (fold-index Survey (surveyed_step s) e x)) ∙ l) in
       let p = child-shape 0 (shape_of e ts) (λ ns. of_first ns (λ n rest. Ok rest)) ms h in
       ap (λ d. d.fits ds) (fold-index Denoted (denoted_step s) e x)
-          ∙ fits-all e v t vars ts ds p.0 (and_parts (term_scoped places e v t) (items_scoped places v x) c').0 p.1 g z f none.2
+      ∙ fits-all e v t vars ts ds p.0 (and_parts (term_scoped places e v t) (items_scoped places v x) c').0 p.1 g z f none.2
   fits-all (gen n e) v t vars ts ds ms c' h g z f l =
       let none = none-at s (n ∷ (surveyed s e (largest_index s n ∷ vars) ts).extents) (is_large (at_least_one s) [] n)
-          (surveyed s e (largest_index s n ∷ vars) ts).big (sym (ap (λ f. (f vars ts).big) (fold-gen Survey (surveyed_step s) n e)) ∙ l) in
+      (surveyed s e (largest_index s n ∷ vars) ts).big (sym (ap (λ f. (f vars ts).big) (fold-gen Survey (surveyed_step s) n e)) ∙ l) in
       let p = child-shape 0 (shape_of e ts) (λ ns. limited (n ∷ ns)) ms h in
       ap (λ d. d.fits ds) (fold-gen Denoted (denoted_step s) n e)
-          ∙ fits-all e (v + 1) t (largest_index s n ∷ vars) ts ds p.0 (and_parts (items_scoped places 0 n) (term_scoped places e (v + 1) t) c').1 p.1 g.1 z f
-          none.2
+      ∙ fits-all e (v + 1) t (largest_index s n ∷ vars) ts ds p.0 (and_parts (items_scoped places 0 n) (term_scoped places e (v + 1) t) c').1 p.1 g.1 z f
+      none.2
   fits-all (sum n e) v t vars ts ds ms c' h g z f l =
       let none = none-at s _ (is_large (at_least_one s) [] n) (surveyed s e (largest_index s n ∷ vars) ts).big
-          (sym (ap (λ f. (f vars ts).big) (fold-sum Survey (surveyed_step s) n e)) ∙ l) in
+      (sym (ap (λ f. (f vars ts).big) (fold-sum Survey (surveyed_step s) n e)) ∙ l) in
       let p = child-shape 0 (shape_of e ts) (λ ns. Ok ns) ms h in
       ap (λ d. d.fits ds) (fold-sum Denoted (denoted_step s) n e)
-          ∙ fits-all e (v + 1) t (largest_index s n ∷ vars) ts ds p.0 (and_parts (items_scoped places 0 n) (term_scoped places e (v + 1) t) c').1 p.1 g.1 z f
-          none.2
+      ∙ fits-all e (v + 1) t (largest_index s n ∷ vars) ts ds p.0 (and_parts (items_scoped places 0 n) (term_scoped places e (v + 1) t) c').1 p.1 g.1 z f
+      none.2
   fits-all (guard c e) v t vars ts ds ms c' h g z f l =
       let none = none-at s _ (any_large_comparison (at_least_one s) vars c.all) (surveyed s e vars ts).big
-          (sym (ap (λ f. (f vars ts).big) (fold-guard Survey (surveyed_step s) c e)) ∙ l) in
+      (sym (ap (λ f. (f vars ts).big) (fold-guard Survey (surveyed_step s) c e)) ∙ l) in
       let p = child-shape 0 (shape_of e ts) (λ ns. Ok ns) ms h in
       ap (λ d. d.fits ds) (fold-guard Denoted (denoted_step s) c e)
-          ∙ fits-all e v t vars ts ds p.0 (and_parts (cond_scoped places v c) (term_scoped places e v t) c').1 p.1 g z f none.2
+      ∙ fits-all e v t vars ts ds p.0 (and_parts (cond_scoped places v c) (term_scoped places e v t) c').1 p.1 g z f none.2
   fits-all (let_in a b) v t vars ts ds ms c' h g z f l =
       let none = none-at s _ false (first_of (surveyed s a vars ts).big (surveyed s b vars ((surveyed s a vars ts).extents ∷ ts)).big)
-          (sym (ap (λ f. (f vars ts).big) (fold-let_in Survey (surveyed_step s) a b)) ∙ l) in
+      (sym (ap (λ f. (f vars ts).big) (fold-let_in Survey (surveyed_step s) a b)) ∙ l) in
       let cs = and_parts (term_scoped places a v t) (term_scoped places b v (t + 1)) c' in
       let gs = negative_parts s (term_goals a ts) (term_goals b (extents_or_none (shape_of a ts) ∷ ts)) g in
       let p = child-shape 0 (shape_of a ts) (λ ns. with_child 1 (shape_of b (ns ∷ ts)) (λ ms. Ok ms)) ms h in
@@ -150,117 +150,117 @@ module _ (s : List ℕ) where
       let goals = subst (λ (r : Shaped). NoneNegative s (term_goals b (extents_or_none r ∷ ts))) p.1 gs.1 in
       let later = ap (λ ns. (surveyed s b vars (ns ∷ ts)).big) (sym (extents-are s a vars ts p.0 p.1)) ∙ nones.1 in
       ap (λ d. d.fits ds) (fold-let_in Denoted (denoted_step s) a b)
-          ∙ and_from ((denoted s a).fits ds) ((denoted s b).fits ((denoted s a).extents ds ∷ ds)) (fits-all a v t vars ts ds p.0 cs.0 p.1 gs.0 z f nones.0)
+      ∙ and_from ((denoted s a).fits ds) ((denoted s b).fits ((denoted s a).extents ds ∷ ds)) (fits-all a v t vars ts ds p.0 cs.0 p.1 gs.0 z f nones.0)
       (fits-all b v (t + 1) vars (p.0 ∷ ts) ((denoted s a).extents ds ∷ ds) q.0 cs.1 q.1 goals
-          (under-scoped places p.0 ts (shape-scoped-all a v t vars ts p.0 cs.0 p.1 z) z) (values, f) later)
+      (under-scoped places p.0 ts (shape-scoped-all a v t vars ts p.0 cs.0 p.1 z) z) (values, f) later)
   fits-all (add a b) v t vars ts ds ms c' h g z f l =
       let none = none-at s _ false (first_of (surveyed s a vars ts).big (surveyed s b vars ts).big)
-          (sym (ap (λ f. (f vars ts).big) (fold-add Survey (surveyed_step s) a b)) ∙ l) in
+      (sym (ap (λ f. (f vars ts).big) (fold-add Survey (surveyed_step s) a b)) ∙ l) in
       let cs = and_parts (term_scoped places a v t) (term_scoped places b v t) c' in
       let gs = negative_parts s (term_goals a ts) (term_goals b ts) g in
       let p = child-shape 0 (shape_of a ts) (λ ns. with_child 1 (shape_of b ts) (λ ms. of_equal ns ms)) ms h in
       let q = child-shape 1 (shape_of b ts) (λ ms. of_equal p.0 ms) ms p.2 in
       let nones = first-none s (surveyed s a vars ts).big (surveyed s b vars ts).big none.2 in
       ap (λ d. d.fits ds) (fold-add Denoted (denoted_step s) a b)
-          ∙ and_from ((denoted s a).fits ds) ((denoted s b).fits ds) (fits-all a v t vars ts ds p.0 cs.0 p.1 gs.0 z f nones.0)
-          (fits-all b v t vars ts ds q.0 cs.1 q.1 gs.1 z f nones.1)
+      ∙ and_from ((denoted s a).fits ds) ((denoted s b).fits ds) (fits-all a v t vars ts ds p.0 cs.0 p.1 gs.0 z f nones.0)
+      (fits-all b v t vars ts ds q.0 cs.1 q.1 gs.1 z f nones.1)
   fits-all (sub a b) v t vars ts ds ms c' h g z f l =
       let none = none-at s _ false (first_of (surveyed s a vars ts).big (surveyed s b vars ts).big)
-          (sym (ap (λ f. (f vars ts).big) (fold-sub Survey (surveyed_step s) a b)) ∙ l) in
+      (sym (ap (λ f. (f vars ts).big) (fold-sub Survey (surveyed_step s) a b)) ∙ l) in
       let cs = and_parts (term_scoped places a v t) (term_scoped places b v t) c' in
       let gs = negative_parts s (term_goals a ts) (term_goals b ts) g in
       let p = child-shape 0 (shape_of a ts) (λ ns. with_child 1 (shape_of b ts) (λ ms. of_equal ns ms)) ms h in
       let q = child-shape 1 (shape_of b ts) (λ ms. of_equal p.0 ms) ms p.2 in
       let nones = first-none s (surveyed s a vars ts).big (surveyed s b vars ts).big none.2 in
       ap (λ d. d.fits ds) (fold-sub Denoted (denoted_step s) a b)
-          ∙ and_from ((denoted s a).fits ds) ((denoted s b).fits ds) (fits-all a v t vars ts ds p.0 cs.0 p.1 gs.0 z f nones.0)
-          (fits-all b v t vars ts ds q.0 cs.1 q.1 gs.1 z f nones.1)
+      ∙ and_from ((denoted s a).fits ds) ((denoted s b).fits ds) (fits-all a v t vars ts ds p.0 cs.0 p.1 gs.0 z f nones.0)
+      (fits-all b v t vars ts ds q.0 cs.1 q.1 gs.1 z f nones.1)
   fits-all (mul a b) v t vars ts ds ms c' h g z f l =
       let none = none-at s [] false (first_of (surveyed s a vars ts).big (surveyed s b vars ts).big)
-          (sym (ap (λ f. (f vars ts).big) (fold-mul Survey (surveyed_step s) a b)) ∙ l) in
+      (sym (ap (λ f. (f vars ts).big) (fold-mul Survey (surveyed_step s) a b)) ∙ l) in
       let cs = and_parts (term_scoped places a v t) (term_scoped places b v t) c' in
       let gs = negative_parts s (term_goals a ts) (term_goals b ts) g in
       let p = child-shape 0 (shape_of a ts) (λ ns. with_child 1 (shape_of b ts) (λ ms. of_words ns ms)) ms h in
       let q = child-shape 1 (shape_of b ts) (λ ms. of_words p.0 ms) ms p.2 in
       let nones = first-none s (surveyed s a vars ts).big (surveyed s b vars ts).big none.2 in
       ap (λ d. d.fits ds) (fold-mul Denoted (denoted_step s) a b)
-          ∙ and_from ((denoted s a).fits ds) ((denoted s b).fits ds) (fits-all a v t vars ts ds p.0 cs.0 p.1 gs.0 z f nones.0)
-          (fits-all b v t vars ts ds q.0 cs.1 q.1 gs.1 z f nones.1)
+      ∙ and_from ((denoted s a).fits ds) ((denoted s b).fits ds) (fits-all a v t vars ts ds p.0 cs.0 p.1 gs.0 z f nones.0)
+      (fits-all b v t vars ts ds q.0 cs.1 q.1 gs.1 z f nones.1)
   fits-all (concat a b) v t vars ts ds ms c' h g z f l =
       let none = none-at s _ false (first_of (surveyed s a vars ts).big (surveyed s b vars ts).big)
-          (sym (ap (λ f. (f vars ts).big) (fold-concat Survey (surveyed_step s) a b)) ∙ l) in
+      (sym (ap (λ f. (f vars ts).big) (fold-concat Survey (surveyed_step s) a b)) ∙ l) in
       let cs = and_parts (term_scoped places a v t) (term_scoped places b v t) c' in
       let gs = negative_parts s (term_goals a ts) (term_goals b ts) g in
       let p = child-shape 0 (shape_of a ts) (λ ns. with_child 1 (shape_of b ts) (λ ms. of_concat ns ms)) ms h in
       let q = child-shape 1 (shape_of b ts) (λ ms. of_concat p.0 ms) ms p.2 in
       let nones = first-none s (surveyed s a vars ts).big (surveyed s b vars ts).big none.2 in
       let own = own-small (concat a b) v t vars ts ds ms c' h g z f
-          (ap (λ f. any_large (at_least_one s) (f vars ts).extents) (fold-concat Survey (surveyed_step s) a b) ∙ none.1) in
+      (ap (λ f. any_large (at_least_one s) (f vars ts).extents) (fold-concat Survey (surveyed_step s) a b) ∙ none.1) in
       ap (λ d. d.fits ds) (fold-concat Denoted (denoted_step s) a b)
-          ∙ and_from ((denoted s a).fits ds && (denoted s b).fits ds)
-          (nat_lt (head_of ((denoted s a).extents ds) + head_of ((denoted s b).extents ds)) (2 ^ 64))
-          (and_from ((denoted s a).fits ds) ((denoted s b).fits ds) (fits-all a v t vars ts ds p.0 cs.0 p.1 gs.0 z f nones.0)
-          (fits-all b v t vars ts ds q.0 cs.1 q.1 gs.1 z f nones.1))
+      ∙ and_from ((denoted s a).fits ds && (denoted s b).fits ds)
+      (nat_lt (head_of ((denoted s a).extents ds) + head_of ((denoted s b).extents ds)) (2 ^ 64))
+      (and_from ((denoted s a).fits ds) ((denoted s b).fits ds) (fits-all a v t vars ts ds p.0 cs.0 p.1 gs.0 z f nones.0)
+      (fits-all b v t vars ts ds q.0 cs.1 q.1 gs.1 z f nones.1))
       ((λ i. nat_lt (head_of (extents-is s a ds i) + head_of (extents-is s b ds i)) (2 ^ 64))
-          ∙ lt-ltb (head_of (dims a s ds) + head_of (dims b s ds)) (2 ^ 64) own)
+      ∙ lt-ltb (head_of (dims a s ds) + head_of (dims b s ds)) (2 ^ 64) own)
   fits-all (flatten e) v t vars ts ds ms c' h g z f l =
       let none = none-at s _ false (surveyed s e vars ts).big (sym (ap (λ f. (f vars ts).big) (fold-flatten Survey (surveyed_step s) e)) ∙ l) in
       let p = child-shape 0 (shape_of e ts) (λ ns. of_two ns (λ n m rest. limited (product_of n m ∷ rest))) ms h in
       let own = own-small (flatten e) v t vars ts ds ms c' h g z f
-          (ap (λ f. any_large (at_least_one s) (f vars ts).extents) (fold-flatten Survey (surveyed_step s) e) ∙ none.1) in
+      (ap (λ f. any_large (at_least_one s) (f vars ts).extents) (fold-flatten Survey (surveyed_step s) e) ∙ none.1) in
       ap (λ d. d.fits ds) (fold-flatten Denoted (denoted_step s) e)
-          ∙ and_from ((denoted s e).fits ds) (nat_lt (head_of ((denoted s e).extents ds) * head_of (tail_of ((denoted s e).extents ds))) (2 ^ 64))
-          (fits-all e v t vars ts ds p.0 c' p.1 g z f none.2)
+      ∙ and_from ((denoted s e).fits ds) (nat_lt (head_of ((denoted s e).extents ds) * head_of (tail_of ((denoted s e).extents ds))) (2 ^ 64))
+      (fits-all e v t vars ts ds p.0 c' p.1 g z f none.2)
       (ap (λ d. nat_lt (head_of d * head_of (tail_of d)) (2 ^ 64)) (extents-is s e ds)
-          ∙ lt-ltb (head_of (dims e s ds) * head_of (tail_of (dims e s ds))) (2 ^ 64) own)
+      ∙ lt-ltb (head_of (dims e s ds) * head_of (tail_of (dims e s ds))) (2 ^ 64) own)
   fits-all (split k e) v t vars ts ds ms c' h g z f l =
       let none = none-at s _ false (surveyed s e vars ts).big (sym (ap (λ f. (f vars ts).big) (fold-split Survey (surveyed_step s) k e)) ∙ l) in
       let p = child-shape 0 (shape_of e ts) (λ ns. of_first ns (λ n rest. limited (tiles k n ∷ literal_form (pos k) ∷ rest))) ms h in
       ap (λ d. d.fits ds) (fold-split Denoted (denoted_step s) k e)
-          ∙ fits-all e v t vars ts ds p.0 (and_parts (nat_lt 0 k && nat_le k largest_tile) (term_scoped places e v t) c').1 p.1 g z f none.2
+      ∙ fits-all e v t vars ts ds p.0 (and_parts (nat_lt 0 k && nat_le k largest_tile) (term_scoped places e v t) c').1 p.1 g z f none.2
   fits-all (transpose e) v t vars ts ds ms c' h g z f l =
       let none = none-at s _ false (surveyed s e vars ts).big (sym (ap (λ f. (f vars ts).big) (fold-transpose Survey (surveyed_step s) e)) ∙ l) in
       let p = child-shape 0 (shape_of e ts) (λ ns. of_two ns (λ n m rest. Ok (m ∷ n ∷ rest))) ms h in
       ap (λ d. d.fits ds) (fold-transpose Denoted (denoted_step s) e) ∙ fits-all e v t vars ts ds p.0 c' p.1 g z f none.2
   fits-all (trunc_l n e) v t vars ts ds ms c' h g z f l =
       let none = none-at s _ (is_large (at_least_one s) [] n) (surveyed s e vars ts).big
-          (sym (ap (λ f. (f vars ts).big) (fold-trunc_l Survey (surveyed_step s) n e)) ∙ l) in
+      (sym (ap (λ f. (f vars ts).big) (fold-trunc_l Survey (surveyed_step s) n e)) ∙ l) in
       let p = child-shape 0 (shape_of e ts) (λ ns. of_first ns (λ m rest. limited (difference_of m n ∷ rest))) ms h in
       ap (λ d. d.fits ds) (fold-trunc_l Denoted (denoted_step s) n e)
-          ∙ fits-all e v t vars ts ds p.0 (and_parts (items_scoped places 0 n) (term_scoped places e v t) c').1 p.1
-          (negative_parts s (rest_after n (extents_or_none (shape_of e ts))) (term_goals e ts) g.1).1 z f none.2
+      ∙ fits-all e v t vars ts ds p.0 (and_parts (items_scoped places 0 n) (term_scoped places e v t) c').1 p.1
+      (negative_parts s (rest_after n (extents_or_none (shape_of e ts))) (term_goals e ts) g.1).1 z f none.2
   fits-all (trunc_r n e) v t vars ts ds ms c' h g z f l =
       let none = none-at s _ (is_large (at_least_one s) [] n) (surveyed s e vars ts).big
-          (sym (ap (λ f. (f vars ts).big) (fold-trunc_r Survey (surveyed_step s) n e)) ∙ l) in
+      (sym (ap (λ f. (f vars ts).big) (fold-trunc_r Survey (surveyed_step s) n e)) ∙ l) in
       let p = child-shape 0 (shape_of e ts) (λ ns. of_first ns (λ m rest. limited (difference_of m n ∷ rest))) ms h in
       ap (λ d. d.fits ds) (fold-trunc_r Denoted (denoted_step s) n e)
-          ∙ fits-all e v t vars ts ds p.0 (and_parts (items_scoped places 0 n) (term_scoped places e v t) c').1 p.1
-          (negative_parts s (rest_after n (extents_or_none (shape_of e ts))) (term_goals e ts) g.1).1 z f none.2
+      ∙ fits-all e v t vars ts ds p.0 (and_parts (items_scoped places 0 n) (term_scoped places e v t) c').1 p.1
+      (negative_parts s (rest_after n (extents_or_none (shape_of e ts))) (term_goals e ts) g.1).1 z f none.2
   fits-all (pad_l n e) v t vars ts ds ms c' h g z f l =
       let none = none-at s _ (is_large (at_least_one s) [] n) (surveyed s e vars ts).big
-          (sym (ap (λ f. (f vars ts).big) (fold-pad_l Survey (surveyed_step s) n e)) ∙ l) in
+      (sym (ap (λ f. (f vars ts).big) (fold-pad_l Survey (surveyed_step s) n e)) ∙ l) in
       let p = child-shape 0 (shape_of e ts) (λ ns. of_first ns (λ m rest. limited (sum_of m n ∷ rest))) ms h in
       let own = own-small (pad_l n e) v t vars ts ds ms c' h g z f
-          (ap (λ f. any_large (at_least_one s) (f vars ts).extents) (fold-pad_l Survey (surveyed_step s) n e) ∙ none.1) in
+      (ap (λ f. any_large (at_least_one s) (f vars ts).extents) (fold-pad_l Survey (surveyed_step s) n e) ∙ none.1) in
       ap (λ d. d.fits ds) (fold-pad_l Denoted (denoted_step s) n e)
-          ∙ and_from ((denoted s e).fits ds) (nat_lt (head_of ((denoted s e).extents ds) + extent n s) (2 ^ 64))
-          (fits-all e v t vars ts ds p.0 (and_parts (items_scoped places 0 n) (term_scoped places e v t) c').1 p.1 g.1 z f none.2)
+      ∙ and_from ((denoted s e).fits ds) (nat_lt (head_of ((denoted s e).extents ds) + extent n s) (2 ^ 64))
+      (fits-all e v t vars ts ds p.0 (and_parts (items_scoped places 0 n) (term_scoped places e v t) c').1 p.1 g.1 z f none.2)
       (ap (λ d. nat_lt (head_of d + extent n s) (2 ^ 64)) (extents-is s e ds) ∙ lt-ltb (head_of (dims e s ds) + extent n s) (2 ^ 64) own)
   fits-all (pad_r n e) v t vars ts ds ms c' h g z f l =
       let none = none-at s _ (is_large (at_least_one s) [] n) (surveyed s e vars ts).big
-          (sym (ap (λ f. (f vars ts).big) (fold-pad_r Survey (surveyed_step s) n e)) ∙ l) in
+      (sym (ap (λ f. (f vars ts).big) (fold-pad_r Survey (surveyed_step s) n e)) ∙ l) in
       let p = child-shape 0 (shape_of e ts) (λ ns. of_first ns (λ m rest. limited (sum_of m n ∷ rest))) ms h in
       let own = own-small (pad_r n e) v t vars ts ds ms c' h g z f
-          (ap (λ f. any_large (at_least_one s) (f vars ts).extents) (fold-pad_r Survey (surveyed_step s) n e) ∙ none.1) in
+      (ap (λ f. any_large (at_least_one s) (f vars ts).extents) (fold-pad_r Survey (surveyed_step s) n e) ∙ none.1) in
       ap (λ d. d.fits ds) (fold-pad_r Denoted (denoted_step s) n e)
-          ∙ and_from ((denoted s e).fits ds) (nat_lt (head_of ((denoted s e).extents ds) + extent n s) (2 ^ 64))
-          (fits-all e v t vars ts ds p.0 (and_parts (items_scoped places 0 n) (term_scoped places e v t) c').1 p.1 g.1 z f none.2)
+      ∙ and_from ((denoted s e).fits ds) (nat_lt (head_of ((denoted s e).extents ds) + extent n s) (2 ^ 64))
+      (fits-all e v t vars ts ds p.0 (and_parts (items_scoped places 0 n) (term_scoped places e v t) c').1 p.1 g.1 z f none.2)
       (ap (λ d. nat_lt (head_of d + extent n s) (2 ^ 64)) (extents-is s e ds) ∙ lt-ltb (head_of (dims e s ds) + extent n s) (2 ^ 64) own)
 
   pub outputs-fit-of : (os : List OutputDecl) (t : ℕ) (ts : List Extents) (ds : List (List ℕ)) → outputs_scoped places t os ≡ true
       → All (λ (o : OutputDecl). IsOk (shape_of o.term ts)) os
       → NoneNegative s (outputs_goals os ts) → each_scoped places ts ≡ true → AllHaveValues s ts ds → outputs_surveyed s os ts ≡ None
-          → outputs_fit s os ds ≡ true
+      → outputs_fit s os ds ≡ true
   outputs-fit-of [] t ts ds c h g z f l = refl
   outputs-fit-of (o ∷ os) t ts ds c h g z f l =
       let p = ok-value (shape_of o.term ts) (h 0 o (omega arith)) in

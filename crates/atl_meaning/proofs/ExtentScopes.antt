@@ -74,5 +74,15 @@ module _ (s : ℕ) where
   pub under-scoped : (ns : Extents) (ts : List Extents) → extents_scoped s ns ≡ true → each_scoped s ts ≡ true → each_scoped s (ns ∷ ts) ≡ true
   under-scoped ns ts p q = and_from (extents_scoped s ns) (each_scoped s ts) p q
 
-pub ruleset scope_laws = (rows-scoped, rest-extents, concatenated-scoped, flattened-scoped, chunked-scoped, transposed-scoped, shortened-scoped,
-    lengthened-scoped, shape-scoped, under-scoped)
+pub ruleset scope_laws = (
+  rows-scoped,
+  rest-extents,
+  concatenated-scoped,
+  flattened-scoped,
+  chunked-scoped,
+  transposed-scoped,
+  shortened-scoped,
+  lengthened-scoped,
+  shape-scoped,
+  under-scoped,
+)

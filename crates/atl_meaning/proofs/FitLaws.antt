@@ -49,13 +49,13 @@ module _ (s : List ℕ) (ds : List (List ℕ)) where
       × (head_of (dims a) + head_of (dims b) < 2 ^ 64)
   fits-Concat w a b i h =
       let p = and_parts (fits a && fits b) (nat_lt (head_of (dims a) + head_of (dims b)) (2 ^ 64))
-          (sym (ap fits (i ∙ Concat-is a b) ∙ ap (λ d. d.fits ds) (fold-concat Denoted (denoted_step s) a b)) ∙ h) in
+      (sym (ap fits (i ∙ Concat-is a b) ∙ ap (λ d. d.fits ds) (fold-concat Denoted (denoted_step s) a b)) ∙ h) in
       (and_parts (fits a) (fits b) p.0, ltb-true (head_of (dims a) + head_of (dims b)) (2 ^ 64) p.1)
 
   pub fits-Flatten : (w : Term) (e : Term) → w ≡ Flatten e → fits w ≡ true → (fits e ≡ true) × (head_of (dims e) * head_of (tail_of (dims e)) < 2 ^ 64)
   fits-Flatten w e i h =
       let p = and_parts (fits e) (nat_lt (head_of (dims e) * head_of (tail_of (dims e))) (2 ^ 64))
-          (sym (ap fits (i ∙ Flatten-is e) ∙ ap (λ d. d.fits ds) (fold-flatten Denoted (denoted_step s) e)) ∙ h) in
+      (sym (ap fits (i ∙ Flatten-is e) ∙ ap (λ d. d.fits ds) (fold-flatten Denoted (denoted_step s) e)) ∙ h) in
       (p.0, ltb-true (head_of (dims e) * head_of (tail_of (dims e))) (2 ^ 64) p.1)
 
   pub fits-Split : (w : Term) (k : ℕ) (e : Term) → w ≡ Split k e → fits w ≡ true → fits e ≡ true
@@ -73,11 +73,11 @@ module _ (s : List ℕ) (ds : List (List ℕ)) where
   pub fits-PadL : (w : Term) (n : Aff) (e : Term) → w ≡ PadL n e → fits w ≡ true → (fits e ≡ true) × (head_of (dims e) + extent n s < 2 ^ 64)
   fits-PadL w n e i h =
       let p = and_parts (fits e) (nat_lt (head_of (dims e) + extent n s) (2 ^ 64))
-          (sym (ap fits (i ∙ PadL-is n e) ∙ ap (λ d. d.fits ds) (fold-pad_l Denoted (denoted_step s) n e)) ∙ h) in
+      (sym (ap fits (i ∙ PadL-is n e) ∙ ap (λ d. d.fits ds) (fold-pad_l Denoted (denoted_step s) n e)) ∙ h) in
       (p.0, ltb-true (head_of (dims e) + extent n s) (2 ^ 64) p.1)
 
   pub fits-PadR : (w : Term) (n : Aff) (e : Term) → w ≡ PadR n e → fits w ≡ true → (fits e ≡ true) × (head_of (dims e) + extent n s < 2 ^ 64)
   fits-PadR w n e i h =
       let p = and_parts (fits e) (nat_lt (head_of (dims e) + extent n s) (2 ^ 64))
-          (sym (ap fits (i ∙ PadR-is n e) ∙ ap (λ d. d.fits ds) (fold-pad_r Denoted (denoted_step s) n e)) ∙ h) in
+      (sym (ap fits (i ∙ PadR-is n e) ∙ ap (λ d. d.fits ds) (fold-pad_r Denoted (denoted_step s) n e)) ∙ h) in
       (p.0, ltb-true (head_of (dims e) + extent n s) (2 ^ 64) p.1)

@@ -87,7 +87,7 @@ module _ (limit : ℕ) (small : limit < 2 ^ 120) (s v maxima most : List ℕ) (w
       let inside : magnitude maxima most i ≤ limit = omega (arith, alone b (atom_magnitude maxima most (Div i k)) one, q, mag-Div maxima most i k) in
       times-Div s v i k c
       ∙ ap (option_and_then (λ w. limited (c *ℤ int_div_euclid w (pos k))))
-          (h (ordered-Div i k o).1 (sym (scoped-Div (length maxima) (length most) i k) ∙ g) inside)
+      (h (ordered-Div i k o).1 (sym (scoped-Div (length maxima) (length most) i k) ∙ g) inside)
       ∙ ap (λ x. limited (c *ℤ x)) (sym (value-Div s v i k)) ∙ plain (Div i k) c b o g p q
 
   abbrev ScopedAll : List Atom → Type 0
@@ -121,7 +121,7 @@ module _ (limit : ℕ) (small : limit < 2 ^ 120) (s v maxima most : List ℕ) (w
   mul_fits fs h o g c b one p q =
       times-Mul s v fs c
       ∙ through-fits fs h (mul_parts fs o).good.ordered (sym (scoped-Mul (length maxima) (length most) fs) ∙ g) c b one p
-          (omega (arith, ap (λ n. b * n) (mag-Mul maxima most fs), q))
+      (omega (arith, ap (λ n. b * n) (mag-Mul maxima most fs), q))
       ∙ ap (λ x. Some (c *ℤ x)) (sym (value-Mul s v fs))
 
   abbrev ScopedTerms : List (Item Atom) → Type 0

@@ -48,7 +48,7 @@ module _ (m : Module) (s : List ℕ) (sound : IsSound m) (allowed : Allowed m s)
   scoped : (inputs_scoped (length m.sizes) m.inputs ≡ true) × (outputs_scoped (length m.sizes) (length m.inputs) m.outputs ≡ true)
   scoped =
       let p = and_parts (all_scoped (length m.sizes) 0 m.assumes)
-          (inputs_scoped (length m.sizes) m.inputs && outputs_scoped (length m.sizes) (length m.inputs) m.outputs) sound.scoped in
+      (inputs_scoped (length m.sizes) m.inputs && outputs_scoped (length m.sizes) (length m.inputs) m.outputs) sound.scoped in
       and_parts (inputs_scoped (length m.sizes) m.inputs) (outputs_scoped (length m.sizes) (length m.inputs) m.outputs) p.1
 
   pub inputs-ready : inputs_scoped (length s) m.inputs ≡ true
@@ -104,7 +104,7 @@ dens-of m s inputs = dens-each s m.outputs (inputs_bound m.inputs s inputs)
 -- one more input
 bound-suc : (f : Value → Tensor) (ds : List InputDecl) (s : List ℕ) (vs : List Value) (k : ℕ) (d : InputDecl) (v : Value) → k < length ds → k < length vs
     → inputs_bound (take (suc k) ds) s (map f (take (suc k) vs)) ≡ inputs_bound (take k ds) s (map f (take k vs))
-        ++ (extents_at (get_or ds k d).extents s, f (get_or vs k v)) ∷ []
+    ++ (extents_at (get_or ds k d).extents s, f (get_or vs k v)) ∷ []
 bound-suc f [] s vs k d v p q = absurd (omega (arith, p))
 bound-suc f (e ∷ ds) s [] k d v p q = absurd (omega (arith, q))
 bound-suc f (e ∷ ds) s (w ∷ vs) zero d v p q = refl

@@ -100,9 +100,10 @@ module _ (s vars : List ℕ) (ts : List Extents) where
   shape-Let w a b i h =
       let o = whole w (let_in a b) (i ∙ Let-is a b) h in
       let p = child-shape 0 (shape_of a ts) (λ ns. with_child 1 (shape_of b (ns ∷ ts)) (λ ms. Ok ms)) o.0 o.1 in
-      let q = child-shape 1 (shape_of b (p.0 ∷ ts)) (λ ms. Ok ms) o.0 p.2 in
-      (ok-of (shape_of a ts) p.0 p.1,
-          subst (λ (ns : Extents). IsOk (shape_of b (ns ∷ ts))) (sym (extents-are s a vars ts p.0 p.1)) (ok-of (shape_of b (p.0 ∷ ts)) q.0 q.1))
+      let q = child-shape 1 (shape_of b (p.0 ∷ ts)) (λ ms. Ok ms) o.0 p.2 in (
+        ok-of (shape_of a ts) p.0 p.1,
+        subst (λ (ns : Extents). IsOk (shape_of b (ns ∷ ts))) (sym (extents-are s a vars ts p.0 p.1)) (ok-of (shape_of b (p.0 ∷ ts)) q.0 q.1),
+      )
 
   pub shape-Add : (w : Term) (a b : Term) → w ≡ Add a b → HasOne w → HasOne a × HasOne b
   shape-Add w a b i h =

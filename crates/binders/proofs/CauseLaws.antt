@@ -128,7 +128,7 @@ module _ (m : Replacement) (r : Refusals) (d : MapRefusal) where
   pub of_body : (z a b : Term) (i j i' j' : ℕ) → z ≡ Let a b → i' ≡ i → j' ≡ j + 1 → Cause b i' j' → Cause z i j
   of_body z a b i j i' j' s e f h =
       parent z (Let a b) i j (place_fold p q a i j || place_fold p q b i (j + 1)) s (place-Let p q a b i j)
-          (second (is_memory d) _ _ (moved b i (j + 1) i' j' e f h))
+      (second (is_memory d) _ _ (moved b i (j + 1) i' j' e f h))
 
   pub of_first-Add : (z a b : Term) (i j : ℕ) → z ≡ Add a b → Cause a i j → Cause z i j
   of_first-Add z a b i j s h = parent z (Add a b) i j (place_fold p q a i j || place_fold p q b i j) s (place-Add p q a b i j) (first (is_memory d) _ _ h)

@@ -139,16 +139,16 @@ module _ (m : Replacement) (r : Refusals) where
       → IsCount (mapped_nodes m e i' j' + 1) (part_causes m r e i' j') a → Counts z i j a
   count-Gen z n e i j i' j' a s p q h =
       one_child z e i j i' j' a
-          ((λ t. mapped_nodes m e (p t) (q t) + 1)
-          ∙ sym (ap (λ y. mapped_nodes m y i j) (s ∙ Gen-is n e) ∙ ap (λ f. f i j) (fold-gen (ℕ → ℕ → ℕ) (nodes_step m) n e)))
+      ((λ t. mapped_nodes m e (p t) (q t) + 1)
+      ∙ sym (ap (λ y. mapped_nodes m y i j) (s ∙ Gen-is n e) ∙ ap (λ f. f i j) (fold-gen (ℕ → ℕ → ℕ) (nodes_step m) n e)))
       (λ d. of_Gen m r d z n e i j i' j' s p q) h
 
   pub count-Sum : (z : Term) (n : Aff) (e : Term) (i j i' j' : ℕ) (a : Result ℕ MapRefusal) → z ≡ Sum n e → i' ≡ i + 1 → j' ≡ j
       → IsCount (mapped_nodes m e i' j' + 1) (part_causes m r e i' j') a → Counts z i j a
   count-Sum z n e i j i' j' a s p q h =
       one_child z e i j i' j' a
-          ((λ t. mapped_nodes m e (p t) (q t) + 1)
-          ∙ sym (ap (λ y. mapped_nodes m y i j) (s ∙ Sum-is n e) ∙ ap (λ f. f i j) (fold-sum (ℕ → ℕ → ℕ) (nodes_step m) n e)))
+      ((λ t. mapped_nodes m e (p t) (q t) + 1)
+      ∙ sym (ap (λ y. mapped_nodes m y i j) (s ∙ Sum-is n e) ∙ ap (λ f. f i j) (fold-sum (ℕ → ℕ → ℕ) (nodes_step m) n e)))
       (λ d. of_Sum m r d z n e i j i' j' s p q) h
 
   pub count-Let : (z x y : Term) (i j i' j' : ℕ) (a b c : Result ℕ MapRefusal) → z ≡ Let x y → i' ≡ i → j' ≡ j + 1 → c ≡ counts_together a b → More x i j a
@@ -162,29 +162,29 @@ module _ (m : Replacement) (r : Refusals) where
       → Counts z i j c
   count-Add z x y i j a b c s e g h =
       subst (Counts z i j) (sym e)
-          (two_children z x y i j i j a b (sym (ap (λ y. mapped_nodes m y i j) (s ∙ Add-is x y) ∙ ap (λ f. f i j) (fold-add (ℕ → ℕ → ℕ) (nodes_step m) x y)))
+      (two_children z x y i j i j a b (sym (ap (λ y. mapped_nodes m y i j) (s ∙ Add-is x y) ∙ ap (λ f. f i j) (fold-add (ℕ → ℕ → ℕ) (nodes_step m) x y)))
       (λ d. of_first-Add m r d z x y i j s) (λ d. of_second-Add m r d z x y i j s) g h)
 
   pub count-Sub : (z x y : Term) (i j : ℕ) (a b c : Result ℕ MapRefusal) → z ≡ Sub x y → c ≡ counts_together a b → More x i j a → Counts y i j b
       → Counts z i j c
   count-Sub z x y i j a b c s e g h =
       subst (Counts z i j) (sym e)
-          (two_children z x y i j i j a b (sym (ap (λ y. mapped_nodes m y i j) (s ∙ Sub-is x y) ∙ ap (λ f. f i j) (fold-sub (ℕ → ℕ → ℕ) (nodes_step m) x y)))
+      (two_children z x y i j i j a b (sym (ap (λ y. mapped_nodes m y i j) (s ∙ Sub-is x y) ∙ ap (λ f. f i j) (fold-sub (ℕ → ℕ → ℕ) (nodes_step m) x y)))
       (λ d. of_first-Sub m r d z x y i j s) (λ d. of_second-Sub m r d z x y i j s) g h)
 
   pub count-Mul : (z x y : Term) (i j : ℕ) (a b c : Result ℕ MapRefusal) → z ≡ Mul x y → c ≡ counts_together a b → More x i j a → Counts y i j b
       → Counts z i j c
   count-Mul z x y i j a b c s e g h =
       subst (Counts z i j) (sym e)
-          (two_children z x y i j i j a b (sym (ap (λ y. mapped_nodes m y i j) (s ∙ Mul-is x y) ∙ ap (λ f. f i j) (fold-mul (ℕ → ℕ → ℕ) (nodes_step m) x y)))
+      (two_children z x y i j i j a b (sym (ap (λ y. mapped_nodes m y i j) (s ∙ Mul-is x y) ∙ ap (λ f. f i j) (fold-mul (ℕ → ℕ → ℕ) (nodes_step m) x y)))
       (λ d. of_first-Mul m r d z x y i j s) (λ d. of_second-Mul m r d z x y i j s) g h)
 
   pub count-Concat : (z x y : Term) (i j : ℕ) (a b c : Result ℕ MapRefusal) → z ≡ Concat x y → c ≡ counts_together a b → More x i j a → Counts y i j b
       → Counts z i j c
   count-Concat z x y i j a b c s e g h =
       subst (Counts z i j) (sym e)
-          (two_children z x y i j i j a b
-          (sym (ap (λ y. mapped_nodes m y i j) (s ∙ Concat-is x y) ∙ ap (λ f. f i j) (fold-concat (ℕ → ℕ → ℕ) (nodes_step m) x y)))
+      (two_children z x y i j i j a b
+      (sym (ap (λ y. mapped_nodes m y i j) (s ∙ Concat-is x y) ∙ ap (λ f. f i j) (fold-concat (ℕ → ℕ → ℕ) (nodes_step m) x y)))
       (λ d. of_first-Concat m r d z x y i j s) (λ d. of_second-Concat m r d z x y i j s) g h)
 
 -- a term whose limits are those of what it stands for

@@ -75,7 +75,7 @@ module _ (by : List Items) (ok : (k : ℕ) → k < length by → is_ordered (giv
       value-lifted s is (new ++ r) (given by (v - length is)) (ok (v - length is) h)
       ∙ have (v - length is) h
       ∙ ap pos (sym (get_or_skip 0 is (values ++ r) v (v - length is) (omega (arith, l))
-          ∙ get_or_append_left values r 0 (v - length is) (omega (arith, h, many))))
+      ∙ get_or_append_left values r 0 (v - length is) (omega (arith, h, many))))
   past l false e =
       let h : length by ≤ v - length is = ltb-false _ _ e in
       let n : ℕ = v - length is - length by in
@@ -86,7 +86,7 @@ module _ (by : List Items) (ok : (k : ℕ) → k < length by → is_ordered (giv
 
   put_value : (b : Bool) → nat_lt v (length is) ≡ b →
       Given (if b then var_form v else
-          (if nat_lt (v - length is) (length by) then shifted 0 (length is) (given by (v - length is)) else var_form (v - length by + length new)))
+      (if nat_lt (v - length is) (length by) then shifted 0 (length is) (given by (v - length is)) else var_form (v - length by + length new)))
   put_value true e = value-var_form s (is ++ (new ++ r)) v ∙ ap pos (get_or_front 0 is (new ++ r) (values ++ r) v (ltb-true _ _ e))
   put_value false e = past (ltb-false _ _ e) (nat_lt (v - length is) (length by)) refl
 

@@ -164,7 +164,7 @@ module _ (from by sizes vars : ℕ) (room : vars + by ≤ 2 ^ 32) where
       (λ v s. every-Var can (λ i. true) v ∙ ap (number_fits from by) (out-Var v) ∙ var_fits v (ltb-true v vars (sym (scoped-Var sizes vars v) ∙ s)))
       (λ x k h s. every-Div can (λ i. true) x k ∙ and_from (can (Div x k)) _ (ap (number_fits from by) (out-Div x k)) (h (sym (scoped-Div sizes vars x k) ∙ s)))
       (λ fs h s. every-Mul can (λ i. true) fs
-          ∙ and_from (can (Mul fs)) _ (ap (number_fits from by) (out-Mul fs)) (factors_fit fs h (sym (scoped-Mul sizes vars fs) ∙ s)))
+      ∙ and_from (can (Mul fs)) _ (ap (number_fits from by) (out-Mul fs)) (factors_fit fs h (sym (scoped-Mul sizes vars fs) ∙ s)))
       (λ ts c h s.
       let x : Items = record { terms = ts; constant = c } in
       every-items can (λ i. true) x ∙ terms_fit ts h (sym (scoped-items sizes vars x) ∙ s))
@@ -182,7 +182,7 @@ pub put_index_within : (by : List Items) (under w sizes vars tensors : ℕ) (e :
     → w + node_depth e ≤ 2 ^ 32 → vars + node_depth e + under ≤ 2 ^ 32 → term_scoped sizes e vars tensors ≡ true → IsWithinReach (put_index_reach by under) e
 put_index_within by under w sizes vars tensors e forms f g s =
     within_reach_of (put_index_reach by under) sizes vars tensors (node_depth e) (λ i j v k l h. first i v k h (nat_lt v i) refl) (λ i j q k l h. refl) e
-        (omega arith) s
+    (omega arith) s
   where
     second : (i v : ℕ) → i ≤ node_depth e → v < vars + i → i ≤ v → (b : Bool) → nat_lt (v - i) (length by) ≡ b
         → (if b then numbers_fit 0 i (given by (v - i)) else nat_lt (v - length by + under) (2 ^ 32)) ≡ true
@@ -201,7 +201,7 @@ pub put_tensor_within : (by : Term) (under w u sizes vars tensors : ℕ) (e : Te
 unfolding may_shift
 put_tensor_within by under w u sizes vars tensors e scoped deep f g h s =
     within_reach_of (put_tensor_reach by under) sizes vars tensors (node_depth e) (λ i j v k l b. refl) (λ i j q k l b. first i j q k l b (nat_lt q j) refl) e
-        (omega arith) s
+    (omega arith) s
   where
     shifted_by : (i j : ℕ) → i ≤ node_depth e → j ≤ node_depth e → may_shift i j by ≡ true
     shifted_by i j k l =
@@ -230,4 +230,4 @@ pub within_everywhere : (d : Reach) → ((i j v : ℕ) → d.has_index i j v ≡
 unfolding form_beyond
 within_everywhere d h k e =
     no_place (form_beyond d) (λ i j q. not (d.has_tensor i j q)) (λ i j x. (λ t. form_has (λ v. not (h i j v t)) x) ∙ has-none x) (λ i j q. ap not (k i j q)) e
-        0 0
+    0 0

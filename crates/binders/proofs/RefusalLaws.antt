@@ -72,7 +72,7 @@ module _ (m : Replacement) (own : ℕ → ℕ → Items → Bool) (q : ℕ → �
       own_causes e (i + 1) j (ap (λ k. coefficients_fit (mapped m k j e)) (add-one i) ∙ f.1)
   own_causes (guard c e) i j h =
       let f = and_parts (each_cmp form_fits (map (put_cmp (m.for_index i j)) c.all)) (coefficients_fit (mapped m i j e))
-          (sym (fold-guard Bool (form_step form_fits) _ _) ∙ h) in
+      (sym (fold-guard Bool (form_step form_fits) _ _) ∙ h) in
       λ t. own_cmps i j c.all f.0 t || own_causes e i j f.1 t
   own_causes (let_in a b) i j h =
       let f = both a b i j (suc j) (sym (fold-let_in Bool (form_step form_fits) _ _) ∙ h) in

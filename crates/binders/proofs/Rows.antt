@@ -31,7 +31,7 @@ module _ {A : Type 0} where
       let e : suc m + n ≡ suc (m + n) = omega arith in
       let at : (i : ℕ) → suc (m + i) ≡ suc m + i = λ i. omega arith in
       (λ j. tabulate (e j) f) ∙ (λ j. f zero ∷ tabulate-add m n (λ i. f (suc i)) j)
-          ∙ (λ j. f zero ∷ (tabulate m (λ i. f (suc i)) ++ tabulate n (λ i. f (at i j))))
+      ∙ (λ j. f zero ∷ (tabulate m (λ i. f (suc i)) ++ tabulate n (λ i. f (at i j))))
 
   pub drop_last-tabulate : (a m n : ℕ) (f : ℕ → A) → m + a ≡ n → drop_last a (tabulate n f) ≡ tabulate m f
   drop_last-tabulate a m n f h =
@@ -93,7 +93,7 @@ pub columns-tabulate : (n m : ℕ) (z : Tensor) (f : ℕ → ℕ → Tensor) →
     columns m z (tabulate n (λ i. from_rows (tabulate m (f i)))) ≡ tabulate m (λ j. from_rows (tabulate n (λ i. f i j)))
 columns-tabulate n m z f =
     same_tabulate m (λ j. from_rows (map (λ row. get_or (rows_of row) j z) (tabulate n (λ i. from_rows (tabulate m (f i))))))
-        (λ j. from_rows (tabulate n (λ i. f i j)))
+    (λ j. from_rows (tabulate n (λ i. f i j)))
     (λ j b. ap from_rows (map-tabulate (λ row. get_or (rows_of row) j z) n (λ i. from_rows (tabulate m (f i))))
     ∙ (λ l. from_rows (tabulate n (λ i. (ap (λ rows. get_or rows j z) (rows_of-from_rows (tabulate m (f i))) ∙ get_or-tabulate m (f i) j z b) l))))
 

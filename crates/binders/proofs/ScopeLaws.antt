@@ -91,7 +91,7 @@ pub mapped_scope : (m : Replacement) (e : Term) → KeepsScope m e (mapped m 0 0
 mapped_scope m e sizes v t v' t' sends h =
     let none : (n : ℕ) → n + 0 ≡ n = λ n. omega arith in
     sym (λ k. term_scoped sizes (mapped m 0 0 e) (none v' k) (none t' k))
-        ∙ mapped-scoped m sizes v t v' t' sends e 0 0 ((λ k. term_scoped sizes e (none v k) (none t k)) ∙ h)
+    ∙ mapped-scoped m sizes v t v' t' sends e 0 0 ((λ k. term_scoped sizes e (none v k) (none t k)) ∙ h)
 
 -- what a map answers
 pub scope_of : (m : Replacement) (e : Term) (own : MapRefusal → Bool) (a : Result Term MapRefusal) → IsMapped (mapped m 0 0 e) own a → IfOk a (KeepsScope m e)
@@ -135,7 +135,7 @@ scopes_put_index by under sizes v t forms = record { index_scoped = λ i j w h. 
 
     first : (i w : ℕ) → w < length by + v + i → (b : Bool) → nat_lt w i ≡ b
         → items_scoped sizes (under + v + i)
-            (if b then var_form w else (if nat_lt (w - i) (length by) then shifted 0 i (given by (w - i)) else var_form (w - length by + under))) ≡ true
+        (if b then var_form w else (if nat_lt (w - i) (length by) then shifted 0 i (given by (w - i)) else var_form (w - length by + under))) ≡ true
     first i w h true c = let k = ltb-true w i c in var-scoped sizes (under + v + i) w (omega (arith, k))
     first i w h false c = second i w h (ltb-false w i c) (nat_lt (w - i) (length by)) refl
 

@@ -45,52 +45,52 @@ module _ (p : Aff → Bool) (m : Replacement) (weaker : (x : Aff) → is_normal 
       ∙ put i j x (sym (fold-word_of Bool (form_step is_normal) x) ∙ h)
   mapped-passes (index e x) i j h =
       fold-index Bool (form_step p) _ _
-          ∙ carried (every_form is_normal e) (is_normal x) _ _ (mapped-passes e i j) (put i j x) (sym (fold-index Bool (form_step is_normal) e x) ∙ h)
+      ∙ carried (every_form is_normal e) (is_normal x) _ _ (mapped-passes e i j) (put i j x) (sym (fold-index Bool (form_step is_normal) e x) ∙ h)
   mapped-passes (guard c e) i j h =
       fold-guard Bool (form_step p) _ _
-          ∙ carried (each_cmp is_normal c.all) (every_form is_normal e) _ _ (cmps-put c.all i j) (mapped-passes e i j)
-          (sym (fold-guard Bool (form_step is_normal) c e) ∙ h)
+      ∙ carried (each_cmp is_normal c.all) (every_form is_normal e) _ _ (cmps-put c.all i j) (mapped-passes e i j)
+      (sym (fold-guard Bool (form_step is_normal) c e) ∙ h)
   mapped-passes (gen n e) i j h =
       fold-gen Bool (form_step p) _ _
-          ∙ carried (is_normal n) (every_form is_normal e) _ _ (weaker n) (mapped-passes e (suc i) j) (sym (fold-gen Bool (form_step is_normal) n e) ∙ h)
+      ∙ carried (is_normal n) (every_form is_normal e) _ _ (weaker n) (mapped-passes e (suc i) j) (sym (fold-gen Bool (form_step is_normal) n e) ∙ h)
   mapped-passes (sum n e) i j h =
       fold-sum Bool (form_step p) _ _
-          ∙ carried (is_normal n) (every_form is_normal e) _ _ (weaker n) (mapped-passes e (suc i) j) (sym (fold-sum Bool (form_step is_normal) n e) ∙ h)
+      ∙ carried (is_normal n) (every_form is_normal e) _ _ (weaker n) (mapped-passes e (suc i) j) (sym (fold-sum Bool (form_step is_normal) n e) ∙ h)
   mapped-passes (let_in a b) i j h =
       fold-let_in Bool (form_step p) _ _
-          ∙ carried (every_form is_normal a) (every_form is_normal b) _ _ (mapped-passes a i j) (mapped-passes b i (suc j))
-          (sym (fold-let_in Bool (form_step is_normal) a b) ∙ h)
+      ∙ carried (every_form is_normal a) (every_form is_normal b) _ _ (mapped-passes a i j) (mapped-passes b i (suc j))
+      (sym (fold-let_in Bool (form_step is_normal) a b) ∙ h)
   mapped-passes (add a b) i j h =
       fold-add Bool (form_step p) _ _
-          ∙ carried (every_form is_normal a) (every_form is_normal b) _ _ (mapped-passes a i j) (mapped-passes b i j)
-          (sym (fold-add Bool (form_step is_normal) a b) ∙ h)
+      ∙ carried (every_form is_normal a) (every_form is_normal b) _ _ (mapped-passes a i j) (mapped-passes b i j)
+      (sym (fold-add Bool (form_step is_normal) a b) ∙ h)
   mapped-passes (sub a b) i j h =
       fold-sub Bool (form_step p) _ _
-          ∙ carried (every_form is_normal a) (every_form is_normal b) _ _ (mapped-passes a i j) (mapped-passes b i j)
-          (sym (fold-sub Bool (form_step is_normal) a b) ∙ h)
+      ∙ carried (every_form is_normal a) (every_form is_normal b) _ _ (mapped-passes a i j) (mapped-passes b i j)
+      (sym (fold-sub Bool (form_step is_normal) a b) ∙ h)
   mapped-passes (mul a b) i j h =
       fold-mul Bool (form_step p) _ _
-          ∙ carried (every_form is_normal a) (every_form is_normal b) _ _ (mapped-passes a i j) (mapped-passes b i j)
-          (sym (fold-mul Bool (form_step is_normal) a b) ∙ h)
+      ∙ carried (every_form is_normal a) (every_form is_normal b) _ _ (mapped-passes a i j) (mapped-passes b i j)
+      (sym (fold-mul Bool (form_step is_normal) a b) ∙ h)
   mapped-passes (concat a b) i j h =
       fold-concat Bool (form_step p) _ _
-          ∙ carried (every_form is_normal a) (every_form is_normal b) _ _ (mapped-passes a i j) (mapped-passes b i j)
-          (sym (fold-concat Bool (form_step is_normal) a b) ∙ h)
+      ∙ carried (every_form is_normal a) (every_form is_normal b) _ _ (mapped-passes a i j) (mapped-passes b i j)
+      (sym (fold-concat Bool (form_step is_normal) a b) ∙ h)
   mapped-passes (flatten e) i j h = fold-flatten Bool (form_step p) _ ∙ mapped-passes e i j (sym (fold-flatten Bool (form_step is_normal) e) ∙ h)
   mapped-passes (split k e) i j h = fold-split Bool (form_step p) k _ ∙ mapped-passes e i j (sym (fold-split Bool (form_step is_normal) k e) ∙ h)
   mapped-passes (transpose e) i j h = fold-transpose Bool (form_step p) _ ∙ mapped-passes e i j (sym (fold-transpose Bool (form_step is_normal) e) ∙ h)
   mapped-passes (trunc_l n e) i j h =
       fold-trunc_l Bool (form_step p) _ _
-          ∙ carried (is_normal n) (every_form is_normal e) _ _ (weaker n) (mapped-passes e i j) (sym (fold-trunc_l Bool (form_step is_normal) n e) ∙ h)
+      ∙ carried (is_normal n) (every_form is_normal e) _ _ (weaker n) (mapped-passes e i j) (sym (fold-trunc_l Bool (form_step is_normal) n e) ∙ h)
   mapped-passes (trunc_r n e) i j h =
       fold-trunc_r Bool (form_step p) _ _
-          ∙ carried (is_normal n) (every_form is_normal e) _ _ (weaker n) (mapped-passes e i j) (sym (fold-trunc_r Bool (form_step is_normal) n e) ∙ h)
+      ∙ carried (is_normal n) (every_form is_normal e) _ _ (weaker n) (mapped-passes e i j) (sym (fold-trunc_r Bool (form_step is_normal) n e) ∙ h)
   mapped-passes (pad_l n e) i j h =
       fold-pad_l Bool (form_step p) _ _
-          ∙ carried (is_normal n) (every_form is_normal e) _ _ (weaker n) (mapped-passes e i j) (sym (fold-pad_l Bool (form_step is_normal) n e) ∙ h)
+      ∙ carried (is_normal n) (every_form is_normal e) _ _ (weaker n) (mapped-passes e i j) (sym (fold-pad_l Bool (form_step is_normal) n e) ∙ h)
   mapped-passes (pad_r n e) i j h =
       fold-pad_r Bool (form_step p) _ _
-          ∙ carried (is_normal n) (every_form is_normal e) _ _ (weaker n) (mapped-passes e i j) (sym (fold-pad_r Bool (form_step is_normal) n e) ∙ h)
+      ∙ carried (is_normal n) (every_form is_normal e) _ _ (weaker n) (mapped-passes e i j) (sym (fold-pad_r Bool (form_step is_normal) n e) ∙ h)
 
 -- a normal form whose variables are moved up is within the limits
 moved_fits : (from by : ℕ) (x : Items) → is_normal x ≡ true → form_fits (shifted from by x) ≡ true
@@ -103,9 +103,9 @@ moved_short from by x h = true_from_ne_false (is_short (shifted from by x))
 pub shift-fits : (a b : ℕ) (e : Term) → every_form is_normal e ≡ true → coefficients_fit (mapped (shift_map a b) 0 0 e) ≡ true
 shift-fits a b e h =
     mapped-passes form_fits (shift_map a b) fits_of (λ i j x. moved_fits i a x) (λ i j q. fold-t_var Bool (form_step form_fits) (cond (nat_lt q j) q (q + b))) e
-        0 0 h
+    0 0 h
 
 pub shift-short : (a b : ℕ) (e : Term) → every_form is_normal e ≡ true → forms_short (mapped (shift_map a b) 0 0 e) ≡ true
 shift-short a b e h =
     mapped-passes is_short (shift_map a b) short_of (λ i j x. moved_short i a x) (λ i j q. fold-t_var Bool (form_step is_short) (cond (nat_lt q j) q (q + b))) e
-        0 0 h
+    0 0 h

@@ -105,5 +105,5 @@ module _ (z : Tensor) (idem : plus_places z z ≡ z) where
       ∙ ap (plus_places (g zero)) (total-zeros n)
   total-one_place (suc n) (suc k) g l h =
       (λ j. plus_places (h zero (λ e. absurd (omega (arith, e))) j)
-          (total-one_place n k (λ i. g (suc i)) (omega (arith, l)) (λ i ne. h (suc i) (λ e. ne (omega (arith, e)))) j))
+      (total-one_place n k (λ i. g (suc i)) (omega (arith, l)) (λ i ne. h (suc i) (λ e. ne (omega (arith, e)))) j))
       ∙ plus_comm z (plus_places (g (suc k)) z) ∙ plus_assoc (g (suc k)) z z ∙ ap (plus_places (g (suc k))) idem

@@ -153,8 +153,11 @@ tensor_same (mul a b) v s r t t' h free = let f = or_parts (uses_tensor a v) (us
     tensor_same b v s r t t' h f.1 in record { extents = refl; meaning = λ i. by_places (λ v w. (v * w) % 2 ^ 64) (g.meaning i) (k.meaning i) }
 tensor_same (concat a b) v s r t t' h free = let f = or_parts (uses_tensor a v) (uses_tensor b v) free in let g = tensor_same a v s r t t' h f.0 in let k =
     tensor_same b v s r t t' h f.1 in
-    record { extents = λ i. (head_of (g.extents i) + head_of (k.extents i)) ∷ tail_of (g.extents i); meaning =
-    λ i. from_rows (rows_of (g.meaning i) ++ rows_of (k.meaning i)) }
+    record {
+      extents = λ i. (head_of (g.extents i) + head_of (k.extents i)) ∷ tail_of (g.extents i);
+      meaning =
+          λ i. from_rows (rows_of (g.meaning i) ++ rows_of (k.meaning i));
+    }
 tensor_same (flatten e) v s r t t' h free = let g = tensor_same e v s r t t' h free in record {
   extents = ap (λ d. (head_of d * head_of (tail_of d)) ∷ tail_of (tail_of d)) g.extents;
   meaning = λ i. from_rows (joined (rows_of (g.meaning i)));

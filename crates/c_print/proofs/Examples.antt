@@ -55,19 +55,28 @@ abbrev test : Rel → List Test
 test rel = record { left = Size 0; rel = rel; right = Lit (pos 0) } ∷ []
 
 -- sums, differences and products of words; choices as operands and in choices
-words : Each (
-    (whole_word (word_product (word_sum (word.Lit 1) (word.Lit 2)) (word.Lit 18446744073709551615)),
-        codes "(UINT64_C(1) + UINT64_C(2)) * UINT64_C(18446744073709551615)")
+words : Each ((
+  whole_word (word_product (word_sum (word.Lit 1) (word.Lit 2)) (word.Lit 18446744073709551615)),
+  codes "(UINT64_C(1) + UINT64_C(2)) * UINT64_C(18446744073709551615)",
+)
     ∷ (whole_word (word_difference (word.Lit 1) (word_difference (word.Lit 2) (word.Lit 3))), codes "UINT64_C(1) - (UINT64_C(2) - UINT64_C(3))")
-    ∷ (whole_word (word_product (OfIndex (index_sum (Loop 0) (Size 1))) (Load (Input 2) (index_sum (Loop 0) (Loop 1)))),
-        codes "(uint64_t)(i0 + n1) * a2[i0 + i1]")
+    ∷ (
+      whole_word (word_product (OfIndex (index_sum (Loop 0) (Size 1))) (Load (Input 2) (index_sum (Loop 0) (Loop 1)))),
+      codes "(uint64_t)(i0 + n1) * a2[i0 + i1]",
+    )
     ∷ (whole_word (word_choice (test Ge) (word.Lit 1) (word_sum (word.Lit 2) (word.Lit 3))), codes "n0 >= INT64_C(0) ? UINT64_C(1) : UINT64_C(2) + UINT64_C(3)")
-    ∷ (whole_word (word_sum (word_choice (test Eq) (word.Lit 1) (word.Lit 2)) (word.Lit 3)),
-        codes "(n0 == INT64_C(0) ? UINT64_C(1) : UINT64_C(2)) + UINT64_C(3)")
-    ∷ (whole_word (word_product (word.Lit 1) (word_choice (test Gt) (word.Lit 2) (word.Lit 3))),
-        codes "UINT64_C(1) * (n0 > INT64_C(0) ? UINT64_C(2) : UINT64_C(3))")
-    ∷ (whole_word (word_choice (test Lt) (word_choice (test Le) (word.Lit 1) (word.Lit 2)) (word_choice (test Eq) (word.Lit 3) (word.Lit 4))),
-        codes "n0 < INT64_C(0) ? n0 <= INT64_C(0) ? UINT64_C(1) : UINT64_C(2) : n0 == INT64_C(0) ? UINT64_C(3) : UINT64_C(4)")
+    ∷ (
+      whole_word (word_sum (word_choice (test Eq) (word.Lit 1) (word.Lit 2)) (word.Lit 3)),
+      codes "(n0 == INT64_C(0) ? UINT64_C(1) : UINT64_C(2)) + UINT64_C(3)",
+    )
+    ∷ (
+      whole_word (word_product (word.Lit 1) (word_choice (test Gt) (word.Lit 2) (word.Lit 3))),
+      codes "UINT64_C(1) * (n0 > INT64_C(0) ? UINT64_C(2) : UINT64_C(3))",
+    )
+    ∷ (
+      whole_word (word_choice (test Lt) (word_choice (test Le) (word.Lit 1) (word.Lit 2)) (word_choice (test Eq) (word.Lit 3) (word.Lit 4))),
+      codes "n0 < INT64_C(0) ? n0 <= INT64_C(0) ? UINT64_C(1) : UINT64_C(2) : n0 == INT64_C(0) ? UINT64_C(3) : UINT64_C(4)",
+    )
     ∷ [])
 unfolding digits index_literal size_name loop_name buffer_name word_literal
 words = (refl, (refl, (refl, (refl, (refl, (refl, (refl, tt)))))))
@@ -85,8 +94,13 @@ doubling = record {
 
 canonical_text-doubling : canonical_text doubling ≡ codes "#include <stdint.h>\nstatic int64_t top(int64_t x, int64_t y) { return x > y ? x : y; }\nstatic void fill(uint64_t *p, int64_t at, int64_t n) { for (int64_t i = 0; i < n; i = i + 1) p[at + i] = 0; }\nint64_t len_a0(int64_t n0) { return n0; }\nint64_t len_b0(int64_t n0) { return n0; }\nvoid atl(int64_t n0, const uint64_t *a0, uint64_t *b0) {\n  fill(b0, INT64_C(0), n0);\n  for (int64_t i0 = INT64_C(0); i0 < n0; i0 = i0 + INT64_C(1)) {\n    b0[i0] = a0[i0] * UINT64_C(2);\n  }\n}\n"
 unfolding canonical_text digits index_literal size_name loop_name buffer_name word_literal
-canonical_text-doubling = rw (fold-seq Lines statement_step, fold-zero Lines statement_step, fold-for Lines statement_step, fold-seq Lines statement_step,
-    fold-put Lines statement_step) refl
+canonical_text-doubling = rw (
+  fold-seq Lines statement_step,
+  fold-zero Lines statement_step,
+  fold-for Lines statement_step,
+  fold-seq Lines statement_step,
+  fold-put Lines statement_step,
+) refl
 
 -- two sizes, a marked loop, a loop in it and two tests
 abbrev tested : Prog

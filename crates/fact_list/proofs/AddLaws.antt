@@ -40,7 +40,7 @@ without-each P a (f ∷ fs) h = by (same_atoms a f) h (without-each P a fs h.1)
 -- one factor more of those that differ
 different_step : (f : Facts) (gs fs : List Atom) (i : ℕ) (x : Atom) (b : Bool) → i < length fs → x ≡ get_or fs i x → stands_in x (drop (suc i) fs) ≡ b
     → all_factor_facts f gs (different (drop i fs)) ≡
-        (if b then all_factor_facts f gs (different (drop (suc i) fs)) else factor_facts f gs x ++ all_factor_facts f gs (different (drop (suc i) fs)))
+    (if b then all_factor_facts f gs (different (drop (suc i) fs)) else factor_facts f gs x ++ all_factor_facts f gs (different (drop (suc i) fs)))
 different_step f gs [] i x b h e s = absurd (omega arith)
 different_step f gs (g ∷ fs) zero x b h e s = ap (λ a. all_factor_facts f gs (different (a ∷ fs))) (sym e) ∙ by b (stands_in x fs) s
   where
@@ -56,7 +56,7 @@ pub different-skip : (f : Facts) (gs fs : List Atom) (i : ℕ) (x : Atom) → i 
     → all_factor_facts f gs (different (drop (i + 1) fs)) ≡ all_factor_facts f gs (different (drop i fs))
 different-skip f gs fs i x h e s =
     ap (λ n. all_factor_facts f gs (different (drop n fs))) (turn i)
-        ∙ sym (different_step f gs fs i x true h e (ap (λ n. stands_in x (drop n fs)) (sym (turn i)) ∙ s))
+    ∙ sym (different_step f gs fs i x true h e (ap (λ n. stands_in x (drop n fs)) (sym (turn i)) ∙ s))
   where
     turn : (i : ℕ) → i + 1 ≡ suc i
     turn i = omega arith
@@ -65,7 +65,7 @@ pub different-take : (f : Facts) (gs fs : List Atom) (i : ℕ) (x : Atom) → i 
     → factor_facts f gs x ++ all_factor_facts f gs (different (drop (i + 1) fs)) ≡ all_factor_facts f gs (different (drop i fs))
 different-take f gs fs i x h e s =
     ap (λ n. factor_facts f gs x ++ all_factor_facts f gs (different (drop n fs))) (turn i)
-        ∙ sym (different_step f gs fs i x false h e (ap (λ n. stands_in x (drop n fs)) (sym (turn i)) ∙ s))
+    ∙ sym (different_step f gs fs i x false h e (ap (λ n. stands_in x (drop n fs)) (sym (turn i)) ∙ s))
   where
     turn : (i : ℕ) → i + 1 ≡ suc i
     turn i = omega arith
@@ -85,7 +85,7 @@ pub facts-Mul : (f : Facts) (fs : List Atom) → NormalAtom (Mul fs)
 facts-Mul f fs n =
     ap (layer_facts f) (out-Mul fs)
     ∙ ap (λ o. fact_if (ProductOf (Mul fs)) o ++ all_factor_facts f fs (different fs))
-        (sym (kept-ok (single (pos 1) (Mul fs) (pos 0)) (single (pos 1) (Mul fs) (pos 0)) refl (once-normal (Mul fs) n)))
+    (sym (kept-ok (single (pos 1) (Mul fs) (pos 0)) (single (pos 1) (Mul fs) (pos 0)) refl (once-normal (Mul fs) n)))
 
 pub meet-known : (f : Facts) (m : Met) (a : Atom) → stands_in a m.atoms ≡ true → m ≡ meet f m a
 meet-known f m a e = by (stands_in a m.atoms) e

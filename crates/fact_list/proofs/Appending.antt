@@ -16,7 +16,7 @@ pub append-next : {A B : Type 0} (f : List A → List B) (g : A → List B) → 
     → m ≡ l ++ g x → m ++ f (drop (i + 1) xs) ≡ l ++ f (drop i xs)
 append-next f g law xs i x l m h e q =
     ap (λ y. y ++ f (drop (i + 1) xs)) q ∙ append_assoc l (g x) (f (drop (i + 1) xs))
-        ∙ ap (λ y. l ++ y) (sym (law x (drop (i + 1) xs)) ∙ ap f (sym (drop-item xs i x h e)))
+    ∙ ap (λ y. l ++ y) (sym (law x (drop (i + 1) xs)) ∙ ap f (sym (drop-item xs i x h e)))
 
 -- nothing stands after the end
 pub drop-all : {A : Type 0} (n : ℕ) (xs : List A) → length xs ≤ n → drop n xs ≡ []

@@ -96,7 +96,7 @@ single-other c a z h g =
     let w = and_parts (terms_fit i.terms) (coefficient_fits (pos 0)) q.0 in
     and_from (is_ordered j) (coefficients_fit j && is_short j) (terms-ordered j (ordered-terms i p.0))
     (and_from (coefficients_fit j) (is_short j) (and_from (terms_fit i.terms) (coefficient_fits z) w.0 g)
-        (ap (λ (n : ℕ). nat_le n 128) (count-items j ∙ sym (count-items i)) ∙ q.1))
+    (ap (λ (n : ℕ). nat_le n 128) (count-items j ∙ sym (count-items i)) ∙ q.1))
 
 large_is : (z : ℤ) → 2 ^ 40 < unsigned_abs z → coefficient_fits z ≡ false
 large_is z h = grind arith
@@ -163,7 +163,7 @@ dividend i k n =
       most = bounds.1;
       normal = and_from (is_ordered i) (coefficients_fit i && is_short i) parts.1
           (and_from (coefficients_fit i) (is_short i)
-              (and_from (terms_fit i.terms) (coefficient_fits i.constant) (remainders_fit k i.terms bounds.1 d.0) (remainder_fits k i.constant bounds.1 d.1))
+          (and_from (terms_fit i.terms) (coefficient_fits i.constant) (remainders_fit k i.terms bounds.1 d.0) (remainder_fits k i.constant bounds.1 d.1))
           (short_from (items_count i) (omega (arith, count-Div i k, n.1))));
     }
 

@@ -90,7 +90,7 @@ pub path-next : (ps : List PathFact) (i after : ℕ) (p : PathFact) (l m : List 
     → m ++ path_facts (drop (i + 1) ps) ≡ l ++ path_facts (drop i ps)
 path-next ps i after p l m h e a q =
     ap (λ y. y ++ path_facts (drop (i + 1) ps)) (q ∙ ap (λ n. l ++ step_facts n p) a)
-        ∙ append_assoc l (step_facts (binders (drop (i + 1) ps)) p) (path_facts (drop (i + 1) ps))
+    ∙ append_assoc l (step_facts (binders (drop (i + 1) ps)) p) (path_facts (drop (i + 1) ps))
     ∙ ap (λ y. l ++ y) (sym (path-step p (drop (i + 1) ps)) ∙ ap path_facts (sym (drop-item ps i p h e)))
 
 pub after-next : (ps : List PathFact) (i after count rest : ℕ) (p : PathFact) → i < length ps → p ≡ get_or ps i p → after ≡ binders (drop i ps)
@@ -125,7 +125,7 @@ stated-next = append-next stated_facts (λ c. stated_if (is_normal (cmp_form c))
 pub size-next : (bs : List SizeBounds) (i : ℕ) (d : SizeBounds) (x y : Option Items) (l m n : List Fact) → i < length bs
     → x ≡ where_normal (above_low i (get_or bs i d).low) → y ≡ where_normal (below_high i (get_or bs i d).high)
     → m ≡ l ++ fact_if (BoundOf Lower (Size i)) x → n ≡ m ++ fact_if (BoundOf Upper (Size i)) y
-        → n ++ size_facts (i + 1) (drop (i + 1) bs) ≡ l ++ size_facts i (drop i bs)
+    → n ++ size_facts (i + 1) (drop (i + 1) bs) ≡ l ++ size_facts i (drop i bs)
 size-next bs i d x y l m n h ex ey em en =
     let b = get_or bs i d in
     let low = fact_if (BoundOf Lower (Size i)) (where_normal (above_low i b.low)) in
@@ -138,5 +138,19 @@ size-next bs i d x y l m n h ex ey em en =
     turn : (i : ℕ) → i + 1 ≡ suc i
     turn i = omega arith
 
-pub ruleset declared_laws = (stated-kept, size-next, moved-next, stated-next, moved-none, moved-Ge, moved-Eq, size-once, size-less, var-next, var-once,
-    var-kept, path-Bound, binders-few)
+pub ruleset declared_laws = (
+  stated-kept,
+  size-next,
+  moved-next,
+  stated-next,
+  moved-none,
+  moved-Ge,
+  moved-Eq,
+  size-once,
+  size-less,
+  var-next,
+  var-once,
+  var-kept,
+  path-Bound,
+  binders-few,
+)

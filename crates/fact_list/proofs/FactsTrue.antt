@@ -139,7 +139,7 @@ module _ (s r : List ℕ) where
       let y = fact_if (BoundOf Upper (Size k)) (where_normal (below_high k b.high)) in
       good-append x (y ++ size_facts (suc k) bs) (fact-good _ (above_low k b.low) (true-left x _ h))
       (good-append y (size_facts (suc k) bs) (fact-good _ (below_high k b.high) (true-left y (size_facts (suc k) bs) (true-right x _ h)))
-          (sizes-good (suc k) bs (true-right y (size_facts (suc k) bs) (true-right x _ h))))
+      (sizes-good (suc k) bs (true-right y (size_facts (suc k) bs) (true-right x _ h))))
 
   assumes-good : (cs : List Cmp) → AllTrue s r (stated_facts cs) → AllGood (stated_facts cs)
   assumes-good [] h = tt
@@ -162,7 +162,7 @@ module _ (s r : List ℕ) where
       let y = fact_if (BoundOf Upper (Var v)) (where_normal (below_extent v n)) in
       good-append x (y ++ path_facts ps) (fact-good _ (var_form v) (true-left x _ h))
       (good-append y (path_facts ps) (fact-good _ (below_extent v n) (true-left y (path_facts ps) (true-right x _ h)))
-          (path-good ps (true-right y (path_facts ps) (true-right x _ h))))
+      (path-good ps (true-right y (path_facts ps) (true-right x _ h))))
   path-good (Holds c ∷ ps) h =
       let x = moved_facts (binders ps) c.all in
       good-append x (path_facts ps) (moved-good (binders ps) c.all (true-left x (path_facts ps) h)) (path-good ps (true-right x (path_facts ps) h))
@@ -175,7 +175,7 @@ module _ (s r : List ℕ) where
       let y = fact_if (BoundOf Upper (Size k)) (where_normal (below_high k b.high)) in
       subst (λ (z : ℕ). AllLimits (size_limits z (Some b))) same
       (limits-append (limit_if Lower (where_normal (above_low k b.low))) (limit_if Upper (where_normal (below_high k b.high)))
-          (fact-limit Lower _ (above_low k b.low) (true-left x _ h))
+      (fact-limit Lower _ (above_low k b.low) (true-left x _ h))
       (fact-limit Upper _ (below_high k b.high) (true-left y (size_facts (suc k) bs) (true-right x _ h))))
   size-limits (b ∷ bs) k (suc n) m e h =
       let x = fact_if (BoundOf Lower (Size k)) (where_normal (above_low k b.low)) in
@@ -190,7 +190,7 @@ module _ (s r : List ℕ) where
       let x = fact_if (BoundOf Lower (Var w)) (where_normal (var_form w)) in
       let y = fact_if (BoundOf Upper (Var w)) (where_normal (below_extent w n)) in
       subst (λ (z : ℕ). AllLimits (var_limits z (Some n))) (sym (same_number v w e))
-          (fact-limit Upper _ (below_extent w n) (true-left y (path_facts ps) (true-right x _ h)))
+      (fact-limit Upper _ (below_extent w n) (true-left y (path_facts ps) (true-right x _ h)))
   one_extent n ps v false e h rest = rest
 
   var-limits : (ps : List PathFact) (v : ℕ) → AllTrue s r (path_facts ps) → AllLimits (var_limits v (extent_at ps v))
@@ -259,8 +259,8 @@ module _ (s r : List ℕ) where
         let rest = stated_facts f.assumes ++ path_facts f.path in
         good-append (size_facts 0 f.sizes) rest (sizes-good 0 f.sizes sizes-part)
         (good-append (stated_facts f.assumes) (path_facts f.path)
-            (assumes-good f.assumes (true-left (stated_facts f.assumes) (path_facts f.path) (true-right (size_facts 0 f.sizes) rest declared)))
-            (path-good f.path path-part))
+        (assumes-good f.assumes (true-left (stated_facts f.assumes) (path_facts f.path) (true-right (size_facts 0 f.sizes) rest declared)))
+        (path-good f.path path-part))
 
     layer-limits : (y : Atom-F Atom Items) → AllLimits (layer_limits f y)
     layer-limits (Atom-F.Size k) = size-limits f.sizes 0 k k (omega arith) sizes-part
@@ -291,7 +291,7 @@ module _ (s r : List ℕ) where
     factors-good fs (a ∷ as') o =
         good-append (factor_facts f fs a) (all_factor_facts f fs as')
         (products_if-good (Mul fs) a (product_of_others (without a fs)) (limits_of f a) (layer-limits (out-Atom a))
-            (others-some (without a fs) (without-each Ordered a fs o))) (factors-good fs as' o)
+        (others-some (without a fs) (without-each Ordered a fs o))) (factors-good fs as' o)
 
     quotient-good : (d : Atom) (ls : List Limit) → AllLimits ls → AllGood (limit_facts d ls)
     quotient-good d [] h = tt
@@ -303,12 +303,12 @@ module _ (s r : List ℕ) where
         (λ k o. subst (λ (y : Atom-F Atom Items). AllGood (layer_facts f y)) (sym (out-Size k)) tt)
         (λ v o. subst (λ (y : Atom-F Atom Items). AllGood (layer_facts f y)) (sym (out-Var v)) tt)
         (λ i k o. subst (λ (y : Atom-F Atom Items). AllGood (layer_facts f y)) (sym (out-Div i k))
-            (quotient-good (Div i k) (quotient_limits i k) (quotient-limits i k)))
+        (quotient-good (Div i k) (quotient_limits i k) (quotient-limits i k)))
         (λ fs o. subst (λ (y : Atom-F Atom Items). AllGood (layer_facts f y)) (sym (out-Mul fs))
         (good-append (fact_if (ProductOf (Mul fs)) (where_normal (of_atom (Mul fs)))) (all_factor_facts f fs (different fs))
         (value-good (ProductOf (Mul fs)) (of_atom (Mul fs))
-            (subst (λ (z : ℤ). pos 0 ≤ℤ z) (sym (value-of_atom s r (Mul fs))) (atom-not_negative s r (Mul fs) o)))
-            (factors-good fs (different fs) (mul_parts fs o).good.ordered)))
+        (subst (λ (z : ℤ). pos 0 ≤ℤ z) (sym (value-of_atom s r (Mul fs))) (atom-not_negative s r (Mul fs) o)))
+        (factors-good fs (different fs) (mul_parts fs o).good.ordered)))
 
     meet-good : (m : Met) (a : Atom) → Ordered a → AllGood m.facts → AllGood (meet f m a).facts
     meet-good m a o h = by (stands_in a m.atoms)
@@ -330,7 +330,7 @@ module _ (s r : List ℕ) where
           h.0,
           followed-good n (meet_all f start (form_parts form)).atoms (queue ++ (meet_all f start (form_parts form)).facts)
               (good-append queue (meet_all f start (form_parts form)).facts h.1
-                  (meet_all-good (form_parts form) start (parts-ordered form (normal-ordered form h.0.0)) tt)),
+              (meet_all-good (form_parts form) start (parts-ordered form (normal-ordered form h.0.0)) tt)),
         )
 
     -- every fact of the list of a goal in normal form holds, and is in normal form

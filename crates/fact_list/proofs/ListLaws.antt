@@ -49,7 +49,7 @@ followed-next f list added i x atoms more h l e ea ef =
     let n = 2000 - (i + 1) in
     let rest = followed n f m.atoms (drop (i + 1) list ++ m.facts) in
     (λ k. (take_less (i + 1) list added (omega arith) ∙ take-item list i x h e) k
-        ++ followed n f (ea k) ((drop_less (i + 1) list added (omega arith) ∙ ap (λ zs. drop (i + 1) list ++ zs) ef) k))
+    ++ followed n f (ea k) ((drop_less (i + 1) list added (omega arith) ∙ ap (λ zs. drop (i + 1) list ++ zs) ef) k))
     ∙ append_assoc (take i list) (x ∷ []) rest
     ∙ ap (λ zs. take i list ++ zs) (sym ((λ k. followed (left i l k) f atoms (drop-item list i x h e k))))
   where
@@ -61,10 +61,10 @@ pub followed-end : (f : Facts) (list : List Fact) (i : ℕ) (atoms : List Atom) 
     → take i list ++ followed (2000 - i) f atoms (drop i list) ≡ take 2000 list
 followed-end f list i atoms h l (inl none) =
     (λ k. take-all i list none k ++ (ap (followed (2000 - i) f atoms) (drop-all i list none) ∙ followed_none f (2000 - i) atoms) k) ∙ append-none list
-        ∙ sym (take-all 2000 list (omega arith))
+    ∙ sym (take-all 2000 list (omega arith))
 followed-end f list i atoms h l (inr many) =
     ap (λ zs. take i list ++ zs) (followed_long f (2000 - i) atoms (drop i list) (omega (arith, length-drop i list))) ∙ sym (take-add i (2000 - i) list)
-        ∙ ap (λ n. take n list) (whole i l)
+    ∙ ap (λ n. take n list) (whole i l)
   where
     whole : (i : ℕ) → i ≤ 2000 → i + (2000 - i) ≡ 2000
     whole i l = omega arith

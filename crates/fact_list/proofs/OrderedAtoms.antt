@@ -154,7 +154,7 @@ pub known-with : (met list more put : List Atom) (a x y : Atom) (n : ℕ) → Kn
     → put ≡ insert list n y → y ≡ a → Known more put
 known-with met list more put a x y n k p m e q f =
     subst (λ (xs : List Atom). Known xs put) (sym (m ∙ ap (λ (z : Atom). met ++ z ∷ []) e))
-        (subst (λ (xs : List Atom). Known (met ++ a ∷ []) xs) (sym (q ∙ ap (insert list n) f)) (known-more met list a n k p))
+    (subst (λ (xs : List Atom). Known (met ++ a ∷ []) xs) (sym (q ∙ ap (insert list n) f)) (known-more met list a n k p))
 
 -- an atom before a list in order stands in it where it is the first
 pub first-same : (a : Atom) (xs : List Atom) (x : Atom) (r : Bool) → (length xs ≡ 0 → ⊥) → x ≡ get_or xs 0 x → SortedFactors (a ∷ xs) → r ≡ same_atoms a x
@@ -171,7 +171,7 @@ pub sorted-slice : (xs : List Atom) (n : ℕ) (x : Atom) → n < length xs → x
     → SortedFactors (x ∷ take (length xs - (n + 1)) (drop (n + 1) xs))
 sorted-slice xs n x h e s =
     subst (λ (ys : List Atom). SortedFactors (x ∷ ys)) (sym (take-all (length xs - (n + 1)) (drop (n + 1) xs) (omega (arith, length-drop (n + 1) xs))))
-        (sorted-from xs n x h e s)
+    (sorted-from xs n x h e s)
 
 -- an atom and those that it does not come after, as a slice
 pub slice-sorted : (a : Atom) (xs : List Atom) (n : ℕ) → SortedFactors xs → Each (AtMost a) (drop n xs) → SortedFactors (a ∷ take (length xs - n) (drop n xs))

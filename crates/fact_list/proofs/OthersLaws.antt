@@ -49,7 +49,7 @@ joined-normal f (g ∷ gs) p =
     let first : NormalAtom f = (p.ordered.0, omega arith) in
     let later = normal-ordered (of_atom (joined (g ∷ gs))) (once-normal (joined (g ∷ gs)) (joined-normal g gs rest)) in
     let both = products-ordered (of_atom f) (product_of_all (map of_atom (g ∷ gs))) (normal-ordered (of_atom f) (once-normal f first))
-        (ap is_ordered (joined-is g gs rest) ∙ later) (apart p.one.0 rest) in
+    (ap is_ordered (joined-is g gs rest) ∙ later) (apart p.one.0 rest) in
     ((ordered-terms (of_atom (Mul (f ∷ g ∷ gs))) (ap is_ordered (sym (joined-is f (g ∷ gs) p)) ∙ both)).1.0.0, omega (arith, count-Mul (f ∷ g ∷ gs)))
   where
     apart : (NoVar f ⊎ Each NoVar (g ∷ gs)) → Part (g ∷ gs) → Apart (of_atom f) (product_of_all (map of_atom (g ∷ gs)))
@@ -66,7 +66,7 @@ and-none false b e = refl
 others-is : (f : Atom) (fs : List Atom) → Part (f ∷ fs) → product_of_others (f ∷ fs) ≡ Some (of_atom (joined (f ∷ fs)))
 others-is f [] p =
     sym (product-apart (of_atom f) (literal_form (pos 1)) (Some (of_atom f))
-        (and-none (holds_var (of_atom f)) (holds_var (literal_form (pos 1))) (vars-items (literal_form (pos 1))))
+    (and-none (holds_var (of_atom f)) (holds_var (literal_form (pos 1))) (vars-items (literal_form (pos 1))))
     (kept-ok (product_of (of_atom f) (literal_form (pos 1))) (of_atom f) refl (once-normal f (joined-normal f [] p))))
 others-is f (g ∷ gs) p =
     let rest = tail f (g ∷ gs) p in
@@ -74,7 +74,7 @@ others-is f (g ∷ gs) p =
     ap (times_others f) (others-is g gs rest)
     ∙ sym (product-apart (of_atom f) other (Some (of_atom (Mul (f ∷ g ∷ gs)))) (apart p.one.0)
     (kept-ok (product_of (of_atom f) other) (of_atom (Mul (f ∷ g ∷ gs))) (sym (joined-is f (g ∷ gs) p) ∙ ap (product_of (of_atom f)) (joined-is g gs rest))
-        (once-normal (Mul (f ∷ g ∷ gs)) (joined-normal f (g ∷ gs) p))))
+    (once-normal (Mul (f ∷ g ∷ gs)) (joined-normal f (g ∷ gs) p))))
   where
     apart : (NoVar f ⊎ Each NoVar (g ∷ gs)) → (holds_var (of_atom f) && holds_var (of_atom (joined (g ∷ gs)))) ≡ false
     apart (inl n) = ap (λ b. b && holds_var (of_atom (joined (g ∷ gs)))) (free-form f n)

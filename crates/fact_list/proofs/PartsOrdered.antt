@@ -36,4 +36,4 @@ parts-ordered = for_items AtomParts FormParts
     (λ i k h o. subst (Each Ordered) (sym (parts-Div i k)) (o, h (ordered-Div i k o).1))
     (λ fs h o. subst (Each Ordered) (sym (parts-Mul fs)) (o, list-parts fs h (mul_parts fs o).good.ordered))
     (λ ts c h o. subst (Each Ordered) (sym (parts-items (record { terms = ts; constant = c })))
-        (terms-parts ts h (ordered-terms (record { terms = ts; constant = c }) o).1))
+    (terms-parts ts h (ordered-terms (record { terms = ts; constant = c }) o).1))

@@ -59,7 +59,7 @@ module _ (s r : List ℕ) where
   sizes-true k (b ∷ bs) h =
       true-append (fact_if _ (where_normal (above_low k b.low))) _ (kept-true _ (above_low k b.low) (low-value k b.low h.0))
       (true-append (fact_if _ (where_normal (below_high k b.high))) (size_facts (suc k) bs) (kept-true _ (below_high k b.high) (high-value k b.high h.1))
-          (sizes-true (suc k) bs h.2))
+      (sizes-true (suc k) bs h.2))
 
   assumes-true : (cs : List Cmp) → all_hold s r cs ≡ true → AllTrue s r (stated_facts cs)
   assumes-true [] h = tt
@@ -82,7 +82,7 @@ module _ (s r : List ℕ) where
   moved-true by (c ∷ cs) n h =
       let a = and_parts (cmp_holds s (drop by r) c) (all_hold s (drop by r) cs) h in
       true-append (stated_if (is_normal (cmp_form (moved_cmp by c))) (moved_cmp by c)) (moved_facts by cs)
-          (stated-true (is_normal (cmp_form (moved_cmp by c))) (moved_cmp by c) (moved-holds by c n.0 a.0)) (moved-true by cs n.1 a.1)
+      (stated-true (is_normal (cmp_form (moved_cmp by c))) (moved_cmp by c) (moved-holds by c n.0 a.0)) (moved-true by cs n.1 a.1)
 
   var-value : (v : ℕ) → pos 0 ≤ℤ items_value s r (var_form v)
   var-value v = let a = value-of_atom s r (Var v) in let b = value-Var s r v in omega (arith, ints)

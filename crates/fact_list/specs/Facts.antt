@@ -85,7 +85,7 @@ abbrev pub size_facts : ℕ → List SizeBounds → List Fact
 size_facts s [] = []
 size_facts s (b ∷ bs) =
     fact_if (BoundOf Lower (Size s)) (where_normal (above_low s b.low))
-        ++ (fact_if (BoundOf Upper (Size s)) (where_normal (below_high s b.high)) ++ size_facts (suc s) bs)
+    ++ (fact_if (BoundOf Upper (Size s)) (where_normal (below_high s b.high)) ++ size_facts (suc s) bs)
 
 -- a comparison, if it is kept
 abbrev pub stated_if : Bool → Cmp → List Fact
@@ -107,7 +107,7 @@ abbrev pub path_facts : List PathFact → List Fact
 path_facts [] = []
 path_facts (Bound n ∷ ps) =
     fact_if (BoundOf Lower (Var (binders ps))) (where_normal (var_form (binders ps)))
-        ++ (fact_if (BoundOf Upper (Var (binders ps))) (where_normal (below_extent (binders ps) n)) ++ path_facts ps)
+    ++ (fact_if (BoundOf Upper (Var (binders ps))) (where_normal (below_extent (binders ps) n)) ++ path_facts ps)
 path_facts (Holds c ∷ ps) = moved_facts (binders ps) c.all ++ path_facts ps
 
 -- the facts that are declared: the sizes, the assumes, the path

@@ -71,10 +71,10 @@ times_next by (x ∷ zs) zero (suc at) amount d z v h e q =
     ap (λ y. y ∷ []) (q ∙ ap (λ b. (pos by *ℤ z) +ℤ pos (if b then amount else 0)) (eqb-zero-suc at) ∙ plus-none (pos by *ℤ z) ∙ ap (λ y. pos by *ℤ y) e)
 times_next by (x ∷ zs) (suc i) zero amount d z v h e q =
     ap (λ ys. ((pos by *ℤ x) +ℤ pos amount) ∷ ys)
-        (all_next by zs i d z v (omega arith) e (q ∙ ap (λ b. (pos by *ℤ z) +ℤ pos (if b then amount else 0)) (eqb-suc-zero i)))
+    (all_next by zs i d z v (omega arith) e (q ∙ ap (λ b. (pos by *ℤ z) +ℤ pos (if b then amount else 0)) (eqb-suc-zero i)))
 times_next by (x ∷ zs) (suc i) (suc at) amount d z v h e q =
     ap (λ ys. (pos by *ℤ x) ∷ ys)
-        (times_next by zs i at amount d z v (omega arith) e (q ∙ ap (λ b. (pos by *ℤ z) +ℤ pos (if b then amount else 0)) (both_less i at)))
+    (times_next by zs i at amount d z v (omega arith) e (q ∙ ap (λ b. (pos by *ℤ z) +ℤ pos (if b then amount else 0)) (both_less i at)))
   where
     both_less : (i at : ℕ) → eqb (suc i) (suc at) ≡ eqb i at
     both_less i at = grind arith

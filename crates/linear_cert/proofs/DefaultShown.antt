@@ -200,12 +200,12 @@ module _ (facts : List Fact) (goal : Items) where
       by false rest =
           and_from (may_take_some z (numbered facts goal (suc k))) _ taken-well
           (and_from (not (names_fact (suc k) (lines_from (suc (suc k)) zs))) (lines_good facts goal (lines_from (suc (suc k)) zs))
-              (ap not (never-named (suc k) (suc (suc k)) zs (omega arith))) rest)
+          (ap not (never-named (suc k) (suc (suc k)) zs (omega arith))) rest)
 
   lines-good : (a : Attempt) → Good facts goal a → lines_good facts goal (attempt_lines a) ≡ true
   lines-good a g =
       and_from (not (names_fact 0 (lines_from 1 a.times))) (lines_good facts goal (lines_from 1 a.times)) (ap not (never-named 0 1 a.times (omega arith)))
-          (good-from 0 facts a.times refl g.may g.each)
+      (good-from 0 facts a.times refl g.may g.each)
 
   -- the forms of lines with their multipliers, under a number that goes with sums and multiples
   abbrev total : (Items → ℤ) → List (Item Items) → ℤ
@@ -232,7 +232,7 @@ module _ (facts : List Fact) (goal : Items) where
 
       by : (b : Bool) → (b ≡ true → z ≡ pos 0) → total L (taken facts goal (lines_from (suc (suc k)) zs)) ≡ weighed L xs zs
           → total L (taken facts goal (if b then lines_from (suc (suc k)) zs else record { fact = suc k; multiplier = z } ∷ lines_from (suc (suc k)) zs)) ≡
-              (z *ℤ L (cmp_form x.cmp)) +ℤ weighed L xs zs
+          (z *ℤ L (cmp_form x.cmp)) +ℤ weighed L xs zs
       by true none rest = let n = ap (λ y. y *ℤ L (cmp_form x.cmp)) (none refl) ∙ zero-*ℤ (L (cmp_form x.cmp)) in omega (arith, ints)
       by false none rest = (λ j. (z *ℤ L (form j)) +ℤ rest j)
 
@@ -281,7 +281,7 @@ module _ (facts : List Fact) (goal : Items) where
     sum-none : (a : Attempt) → Good facts goal a → a.left.terms ≡ [] → (line_sum facts goal (attempt_lines a)).terms ≡ []
     sum-none a g e =
         no-weight (line_sum facts goal (attempt_lines a))
-            (add_up-ordered (taken facts goal (attempt_lines a)) (literal_form (pos 0)) (taken-ordered (attempt_lines a)) (literal-ordered (pos 0)))
+        (add_up-ordered (taken facts goal (attempt_lines a)) (literal_form (pos 0)) (taken-ordered (attempt_lines a)) (literal-ordered (pos 0)))
         (λ b. zero-from (mark b) (sum-L (λ i. weight (mark b) i.terms) (weight-linear (mark b)) a g))
       where
         zero-from : (w : Atom → ℤ) → weight w (line_sum facts goal (attempt_lines a)).terms +ℤ weight w a.left.terms ≡ pos 0 +ℤ (pos a.goal_times *ℤ pos 0)
@@ -389,8 +389,10 @@ module _ (facts : List Fact) (goal : Items) where
 
     cmp-good : (n : ℕ) (r : Role) (c : Cmp) → slice_get facts n ≡ Some (record { role = r; cmp = c }) → AllGood (attempts_of_cmp facts goal n c)
     cmp-good n r (Ge x) e = (with-good n (record { role = r; cmp = Ge x }) (pos 1) e refl, tt)
-    cmp-good n r (Eq x) e = (with-good n (record { role = r; cmp = Eq x }) (pos 1) e refl,
-        (with-good n (record { role = r; cmp = Eq x }) (negsuc 0) e refl, tt))
+    cmp-good n r (Eq x) e = (
+      with-good n (record { role = r; cmp = Eq x }) (pos 1) e refl,
+      (with-good n (record { role = r; cmp = Eq x }) (negsuc 0) e refl, tt),
+    )
 
     role-good : (n : ℕ) (r : Role) (c : Cmp) → slice_get facts n ≡ Some (record { role = r; cmp = c }) → AllGood (attempts_of_role facts goal n r c)
     role-good n Stated c e = cmp-good n Stated c e
@@ -407,7 +409,7 @@ module _ (facts : List Fact) (goal : Items) where
     attempts-good n (x ∷ xs) d =
         let s = slice-drop facts n x xs d in
         good-append (attempts_of_role facts goal n x.role x.cmp) (attempts_from facts goal (suc n) xs) (role-good n x.role x.cmp s.0)
-            (attempts-good (suc n) xs s.1)
+        (attempts-good (suc n) xs s.1)
 
     -- the lines that the procedure ends with show the goal
     pub default-shows : Show (default_lines_of facts goal)

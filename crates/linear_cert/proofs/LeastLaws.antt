@@ -53,13 +53,13 @@ pub least-next : (fs : List Atom) (i : ℕ) (x : Atom) (v w u : Option ℕ) → 
     → lesser w (list_least (drop (i + 1) fs)) ≡ lesser v (list_least (drop i fs))
 least-next fs i x v w u h e a b =
     (λ k. lesser ((b ∙ ap (lesser v) a) k) (list_least (drop (i + 1) fs))) ∙ lesser-again v (atom_least x) (list_least (drop (i + 1) fs))
-        ∙ ap (λ gs. lesser v (list_least gs)) (sym (drop-item fs i x h e))
+    ∙ ap (λ gs. lesser v (list_least gs)) (sym (drop-item fs i x h e))
 
 pub least_term-next : (ts : List (Item Atom)) (i : ℕ) (x : Item Atom) (v w u : Option ℕ) → i < length ts → x ≡ get_or ts i x → u ≡ atom_least x.atom
     → w ≡ lesser v u → lesser w (terms_least (drop (i + 1) ts)) ≡ lesser v (terms_least (drop i ts))
 least_term-next ts i x v w u h e a b =
     (λ k. lesser ((b ∙ ap (lesser v) a) k) (terms_least (drop (i + 1) ts))) ∙ lesser-again v (atom_least x.atom) (terms_least (drop (i + 1) ts))
-        ∙ ap (λ gs. lesser v (terms_least gs)) (sym (drop-item ts i x h e))
+    ∙ ap (λ gs. lesser v (terms_least gs)) (sym (drop-item ts i x h e))
 
 pub least-end : (form : Items) (n : ℕ) (v : Option ℕ) → length form.terms ≤ n → lesser v (terms_least (drop n form.terms)) ≡ terms_least form.terms
     → v ≡ form_least form

@@ -149,7 +149,7 @@ good-next facts goal ls i h f =
 -- one line more
 taken_next : (facts : List Fact) (goal : Items) (ls : List Line) (i : ℕ) (d : Line) (t : Items) → i < length ls
     → add_up (taken facts goal (drop i ls)) t ≡ add_up (taken facts goal (drop (suc i) ls))
-        (sum_of t (scaled (get_or ls i d).multiplier (form_or_zero (numbered facts goal (get_or ls i d).fact))))
+    (sum_of t (scaled (get_or ls i d).multiplier (form_or_zero (numbered facts goal (get_or ls i d).fact))))
 taken_next facts goal [] i d t h = absurd (omega arith)
 taken_next facts goal (l ∷ ls) zero d t h = refl
 taken_next facts goal (l ∷ ls) (suc i) d t h = taken_next facts goal ls i d t (omega arith)
@@ -159,7 +159,7 @@ pub taken-next : (facts : List Fact) (goal : Items) (ls : List Line) (i : ℕ) (
     → add_up (taken facts goal (drop (i + 1) ls)) u ≡ add_up (taken facts goal (drop i ls)) t
 taken-next facts goal ls i d t u f h e g =
     (λ k. add_up (taken facts goal (drop (turn i k) ls)) ((e ∙ ap (λ x. sum_of t (scaled (get_or ls i d).multiplier x)) g) k))
-        ∙ sym (taken_next facts goal ls i d t h)
+    ∙ sym (taken_next facts goal ls i d t h)
   where
     turn : (i : ℕ) → i + 1 ≡ suc i
     turn i = omega arith

@@ -50,8 +50,8 @@ pub line-skipped : (times : List ℤ) (i : ℕ) (z : ℤ) (lines : List Line) �
 line-skipped times i z lines h e n =
     ap (λ xs. lines ++ xs) (ap (λ k. lines_from k (drop (i + 1) times)) (turn i)
     ∙ sym (ap (lines_from (i + 1)) (drop-item times i z h e)
-        ∙ ap (λ b. if b then lines_from (suc (i + 1)) (drop (i + 1) times) else record { fact = i + 1; multiplier = z }
-        ∷ lines_from (suc (i + 1)) (drop (i + 1) times)) (ap (λ y. int_eq y (pos 0)) n)))
+    ∙ ap (λ b. if b then lines_from (suc (i + 1)) (drop (i + 1) times) else record { fact = i + 1; multiplier = z }
+    ∷ lines_from (suc (i + 1)) (drop (i + 1) times)) (ap (λ y. int_eq y (pos 0)) n)))
   where
     turn : (i : ℕ) → i + 1 + 1 ≡ suc (i + 1)
     turn i = omega arith
@@ -66,7 +66,7 @@ line-taken times i z lines more h e n m =
     let rest = lines_from (suc (i + 1)) (drop (i + 1) times) in
     (λ k. m k ++ lines_from (turn i k) (drop (i + 1) times)) ∙ append_assoc lines (record { fact = i + 1; multiplier = z } ∷ []) rest
     ∙ ap (λ xs. lines ++ xs) (sym
-        (ap (lines_from (i + 1)) (drop-item times i z h e) ∙ ap (λ b. if b then rest else record { fact = i + 1; multiplier = z } ∷ rest) (other_is z n)))
+    (ap (lines_from (i + 1)) (drop-item times i z h e) ∙ ap (λ b. if b then rest else record { fact = i + 1; multiplier = z } ∷ rest) (other_is z n)))
   where
     turn : (i : ℕ) → i + 1 + 1 ≡ suc (i + 1)
     turn i = omega arith
@@ -84,7 +84,7 @@ pub carried-next : (i : ℕ) (facts : List Fact) (a : Attempt) (o : Option Attem
     → option_and_then (carried_on (512 - (i + 1)) facts) o ≡ carried_on (512 - i) facts a
 carried-next i facts a o h n e =
     ap (option_and_then (carried_on (512 - (i + 1)) facts)) e
-        ∙ sym (more_terms a.left.terms a (option_and_then (carried_on (512 - (i + 1)) facts) (replaced facts a)) n) ∙ ap (λ k. carried_on k facts a) (left i h)
+    ∙ sym (more_terms a.left.terms a (option_and_then (carried_on (512 - (i + 1)) facts) (replaced facts a)) n) ∙ ap (λ k. carried_on k facts a) (left i h)
   where
     left : (i : ℕ) → i < 512 → suc (512 - (i + 1)) ≡ 512 - i
     left i h = omega arith
@@ -127,7 +127,7 @@ pub attempts-next : (facts : List Fact) (goal : Items) (i : ℕ) (x : Fact) (o :
 attempts-next facts goal i x o h e a =
     (λ k. option_or (a k) (first_lines facts (attempts_from facts goal (turn i k) (drop (i + 1) facts))))
     ∙ sym (ap (λ xs. first_lines facts (attempts_from facts goal i xs)) (drop-item facts i x h e)
-        ∙ first-append facts (attempts_of_role facts goal i x.role x.cmp) (attempts_from facts goal (suc i) (drop (i + 1) facts)))
+    ∙ first-append facts (attempts_of_role facts goal i x.role x.cmp) (attempts_from facts goal (suc i) (drop (i + 1) facts)))
   where
     turn : (i : ℕ) → i + 1 ≡ suc i
     turn i = omega arith

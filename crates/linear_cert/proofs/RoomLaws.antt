@@ -82,7 +82,7 @@ factor-ordered = by_kind (λ a. Ordered a → Ordered (chosen_factor a))
     (λ fs o. subst Ordered (sym (factor-Mul fs)) (atom_or-ordered (Mul fs) (chosen_of fs) o
     (let each = (mul_parts fs o).good.ordered in
     or-ordered (find (λ a. is_some (atom_least a)) fs) _ (find-ordered _ fs each)
-        (or-ordered (find (λ a. layer_is_quotient (out-Atom a)) fs) (slice_get fs 0) (find-ordered _ fs each) (first-ordered fs each)))))
+    (or-ordered (find (λ a. layer_is_quotient (out-Atom a)) fs) (slice_get fs 0) (find-ordered _ fs each) (first-ordered fs each)))))
 
 divisor-positive : (a : Atom) → Ordered a → 0 < divisor_of a
 divisor-positive = by_kind (λ a. Ordered a → 0 < divisor_of a)
@@ -119,7 +119,7 @@ step-lost facts a t e f = ap (replaced_item facts a) e ∙ ap (with_bound facts 
 pub step-found : (facts : List Fact) (a : Attempt) (t : Item Atom) (n by amount k c : ℕ) → chosen_item a.left ≡ Some t
     → find_role (role_for (side_for t.coefficient) t.atom (chosen_factor t.atom)) 0 facts ≡ Some n
     → k ≡ divisor_of (chosen_factor t.atom) → c ≡ unsigned_abs t.coefficient → by ≡ needed c k → amount ≡ (c * by) / k
-        → replaced facts a ≡ limited_attempt (less_fact facts a by amount n)
+    → replaced facts a ≡ limited_attempt (less_fact facts a by amount n)
 step-found facts a t n by amount k c e f ek ec eb ea =
     ap (replaced_item facts a) e ∙ ap (with_bound facts a (unsigned_abs t.coefficient) (divisor_of (chosen_factor t.atom))) f
     ∙ (λ j. with_bound facts a (sym ec j) (sym ek j) (Some n))
@@ -134,7 +134,7 @@ divisor-is form at t atom factor k o h e a f d = subst (λ n. 0 < n) (sym (d ∙
 pub step-is : (facts : List Fact) (a : Attempt) (at : ℕ) (t : Item Atom) (atom other factor : Atom) (z y : ℤ) (side : Side) (n k c by amount : ℕ)
     → slice_get a.left.terms at ≡ chosen_item a.left → at < length a.left.terms → t ≡ get_or a.left.terms at t
     → atom ≡ t.atom → factor ≡ chosen_factor atom → z ≡ t.coefficient → side ≡ side_for z → other ≡ t.atom
-        → Some n ≡ find_role (role_for side other factor) 0 facts → k ≡ divisor_of factor → y ≡ t.coefficient → c ≡ unsigned_abs y
+    → Some n ≡ find_role (role_for side other factor) 0 facts → k ≡ divisor_of factor → y ≡ t.coefficient → c ≡ unsigned_abs y
     → by ≡ needed c k → amount ≡ (c * by) / k → replaced facts a ≡ limited_attempt (less_fact facts a by amount n)
 step-is facts a at t atom other factor z y side n k c by amount chosen h e ea ef ez es eo en ek ey ec eb em =
     let f = ef ∙ ap chosen_factor ea in
@@ -207,8 +207,13 @@ grown m b n = grind arith
 difference-norm : (by amount : ℕ) (left form : Items)
     → norm (difference_of (scaled (pos by) left) (scaled (pos amount) form)) ≤ by * norm left + amount * norm form
 difference-norm by amount left form =
-    omega (arith, sum-norm (scaled (pos by) left) (scaled (negsuc 0) (scaled (pos amount) form)), scaled-norm (pos by) left,
-        scaled-norm (negsuc 0) (scaled (pos amount) form), scaled-norm (pos amount) form)
+    omega (
+      arith,
+      sum-norm (scaled (pos by) left) (scaled (negsuc 0) (scaled (pos amount) form)),
+      scaled-norm (pos by) left,
+      scaled-norm (negsuc 0) (scaled (pos amount) form),
+      scaled-norm (pos amount) form,
+    )
 
 small-next : (n by m amount l f w : ℕ) → l ≤ m * (2 ^ 50 + n * 2 ^ 80) → f ≤ 2 ^ 48 → amount ≤ 2 ^ 32 → 0 < by * m → w ≤ by * l + amount * f
     → w ≤ by * m * (2 ^ 50 + suc n * 2 ^ 80)
@@ -285,8 +290,12 @@ after : (facts : List Fact) (a : Attempt) (s : Step) (left form : Items) (times 
     → left ≡ difference_of (scaled (pos s.by) a.left) (scaled (pos s.amount) form) → form ≡ fact_form facts s.fact
     → record { left = left; goal_times = s.by * a.goal_times; times = times } ≡ less_fact facts a s.by s.amount s.fact
 after facts a s left form times et el ef =
-    λ k. record { left = (el ∙ ap (λ f. difference_of (scaled (pos s.by) a.left) (scaled (pos s.amount) f)) ef) k; goal_times = s.by * a.goal_times; times =
-    et k }
+    λ k. record {
+      left = (el ∙ ap (λ f. difference_of (scaled (pos s.by) a.left) (scaled (pos s.amount) f)) ef) k;
+      goal_times = s.by * a.goal_times;
+      times =
+          et k;
+    }
 
 pub after-is : (facts : List Fact) (a : Attempt) (s : Step) (left form : Items) (times : List ℤ) → StepOf facts a s
     → times ≡ add_at (all_times s.by a.times) s.fact (pos s.amount) → left ≡ difference_of (scaled (pos s.by) a.left) (scaled (pos s.amount) form)
@@ -294,12 +303,12 @@ pub after-is : (facts : List Fact) (a : Attempt) (s : Step) (left form : Items) 
     → multipliers_fit times ≡ true → Some (record { left = left; goal_times = s.by * a.goal_times; times = times }) ≡ replaced facts a
 after-is facts a s left form times step et el ef fit =
     ap Some (after facts a s left form times et el ef)
-        ∙ sym (step.is ∙ limited-fit (less_fact facts a s.by s.amount s.fact) step.product (sym (ap multipliers_fit et) ∙ fit))
+    ∙ sym (step.is ∙ limited-fit (less_fact facts a s.by s.amount s.fact) step.product (sym (ap multipliers_fit et) ∙ fit))
 
 pub after-room : (facts : List Fact) (n : ℕ) (a : Attempt) (s : Step) (left form : Items) (times : List ℤ) → StepOf facts a s
     → times ≡ add_at (all_times s.by a.times) s.fact (pos s.amount) → left ≡ difference_of (scaled (pos s.by) a.left) (scaled (pos s.amount) form)
     → form ≡ fact_form facts s.fact → multipliers_fit times ≡ true → AllNormal facts → Room facts n a
-        → Room facts (suc n) (record { left = left; goal_times = s.by * a.goal_times; times = times })
+    → Room facts (suc n) (record { left = left; goal_times = s.by * a.goal_times; times = times })
 after-room facts n a s left form times step et el ef fit normal r =
     subst (Room facts (suc n)) (sym (after facts a s left form times et el ef)) (room-next facts n a s r normal step (sym (ap multipliers_fit et) ∙ fit))
 
@@ -308,9 +317,16 @@ more-count m n k h = mul-le-mul (omega arith) (omega arith)
 
 -- room after fewer replacements is room after more
 pub room-more : (facts : List Fact) (n k : ℕ) (a : Attempt) → n ≤ k → Room facts n a → Room facts k a
-room-more facts n k a h r = record
-    { small = omega (arith, r.small, more-count a.goal_times n k h); ordered = r.ordered; some = r.some; most = r.most; fit = r.fit; above = r.above; each =
-    r.each }
+room-more facts n k a h r = record {
+  small = omega (arith, r.small, more-count a.goal_times n k h);
+  ordered = r.ordered;
+  some = r.some;
+  most = r.most;
+  fit = r.fit;
+  above = r.above;
+  each =
+      r.each;
+}
 
 pub length-none : (xs : List Fact) → length (no_times xs) ≡ length xs
 length-none [] = refl

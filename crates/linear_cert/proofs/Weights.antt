@@ -44,7 +44,7 @@ module _ (w : Atom → ℤ) where
     where
       by_order : (o : Ordering) → atom_order a.atom b.atom ≡ o → weight (onto a (merged as') bs) ≡ ((a.coefficient *ℤ w a.atom) +ℤ weight as') +ℤ weight bs
           → weight (onto_by o a (merged as') b bs (onto a (merged as') bs)) ≡ ((a.coefficient *ℤ w a.atom) +ℤ weight as')
-              +ℤ ((b.coefficient *ℤ w b.atom) +ℤ weight bs)
+          +ℤ ((b.coefficient *ℤ w b.atom) +ℤ weight bs)
       by_order Less e later = omega (arith, ints, h (b ∷ bs))
       by_order Greater e later = omega (arith, ints, later)
       by_order Equal e later = omega (arith, ints, h bs, combined-weight a b (merged as' bs) (atom_order-Equal a.atom b.atom e))

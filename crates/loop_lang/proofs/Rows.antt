@@ -76,7 +76,7 @@ guarded_let = record {
 let_acts : program_acts guarded_let []
     ≡ Store Puts (Output 0) (Word 0) (pos 0) ∷ Store Puts (Output 0) (Word 0) (pos 1)
     ∷ Tick ∷ Store Puts (Scratch 0) (Word 0) (pos 0) ∷ Tick ∷ Store Puts (Scratch 0) (At (Input 0) (pos 0)) (pos 0)
-        ∷ Store Puts (Output 0) (At (Scratch 0) (pos 0)) (pos 0)
+    ∷ Store Puts (Output 0) (At (Scratch 0) (pos 0)) (pos 0)
     ∷ Tick ∷ Store Puts (Scratch 0) (Word 0) (pos 0) ∷ Tick ∷ Store Puts (Output 0) (At (Scratch 0) (pos 0)) (pos 1) ∷ []
 let_acts = simp row_laws
 
@@ -177,7 +177,7 @@ bound_overflow = simp row_laws
 -- loop variables are counted from the outside: for i0 < 2 { for i1 < 2 { b0[i1 + 2 * i0] = (word)(i0 - i1) } }
 nested : (w x y z : ℕ) → apply (acts (For (Lit (pos 2)) true (For (Lit (pos 2)) false
     (Put (Output 0) (index_sum (Loop 1) (index_product (Lit (pos 2)) (Loop 0))) (OfIndex (index_difference (Loop 0) (Loop 1)))))) [] [])
-        (memory [] (w ∷ x ∷ y ∷ z ∷ []) [])
+    (memory [] (w ∷ x ∷ y ∷ z ∷ []) [])
     ≡ Ends (memory [] (0 ∷ 18446744073709551615 ∷ 1 ∷ 0 ∷ []) [])
 nested w x y z = simp row_laws
 
@@ -233,7 +233,7 @@ marked_twice = simp formed_laws
 -- the four orders and equality, below, at and above
 comparisons : tested (record { left = Lit (pos 1); rel = Lt; right = Lit (pos 2) } ∷ record { left = Lit (pos 2); rel = Le; right = Lit (pos 2) }
     ∷ record { left = Lit (pos 2); rel = Gt; right = Lit (pos 1) } ∷ record { left = Lit (pos 2); rel = Ge; right = Lit (pos 2) }
-        ∷ equal (Lit (pos 2)) (Lit (pos 2)) ∷ []) [] [] ≡ Holds
+    ∷ equal (Lit (pos 2)) (Lit (pos 2)) ∷ []) [] [] ≡ Holds
 comparisons = refl
 
 not_less : tested (record { left = Lit (pos 2); rel = Lt; right = Lit (pos 2) } ∷ []) [] [] ≡ IsFalse

@@ -26,9 +26,9 @@ pub row-given : (s : List ℕ) (es : List Aff) (n : Aff) (ns : List Aff) (v : Va
 row-given s es n ns v rows e r k h =
     let g = rows-given (extents_at ns s) (map meant rows) h in
     let ds : length (map meant rows) ∷ extents_at ns s ≡ extents_at es s = (λ i. (length-map rows meant ∙ sym k) i ∷ extents_at ns s)
-        ∙ sym (ap (λ es. extents_at es s) e) in
+    ∙ sym (ap (λ es. extents_at es s) e) in
     subst (λ (ds : List ℕ). IsGiven ds (meant v)) ds
-        (subst (λ (t : Tensor). IsGiven (length (map meant rows) ∷ extents_at ns s) t) (sym (ap meant r ∙ meant-Row rows)) g)
+    (subst (λ (t : Tensor). IsGiven (length (map meant rows) ∷ extents_at ns s) t) (sym (ap meant r ∙ meant-Row rows)) g)
 
 pub shown-next : (f : Facts) (gs : List Items) (k : ℕ) (g : Items) → k < length gs → g ≡ get_or gs k g → is_shown f g Default ≡ true
     → AllShown f (drop (k + 1) gs) → AllShown f (drop k gs)

@@ -32,14 +32,16 @@ scoped_push : (sizes : ℕ) (ns : Extents) (n : Items) → items_scoped sizes 0 
 scoped_push sizes [] n h k = and_from (items_scoped sizes 0 n) true h refl
 scoped_push sizes (m ∷ ns) n h k =
     let p = and_parts (items_scoped sizes 0 m) (extents_scoped sizes ns) k in
-        and_from (items_scoped sizes 0 m) (extents_scoped sizes (ns ++ n ∷ [])) p.0 (scoped_push sizes ns n h p.1)
+    and_from (items_scoped sizes 0 m) (extents_scoped sizes (ns ++ n ∷ [])) p.0 (scoped_push sizes ns n h p.1)
 
 -- one more literal
 pub literal_push : (ns ms : Extents) (n : Items) (z : ℤ) → ms ≡ ns ++ n ∷ [] → n ≡ literal_form z → (each_free ns ≡ true) × (extents_scoped 1 ns ≡ true)
     → (each_free ms ≡ true) × (extents_scoped 1 ms ≡ true)
-literal_push ns ms n z e f h =
-    (ap each_free e ∙ free_push ns n (ap (λ n. not (holds_var n)) f ∙ free_literal z) h.0, ap (extents_scoped 1) e
-        ∙ scoped_push 1 ns n (ap (items_scoped 1 0) f ∙ literal_scoped 1 z) h.1)
+literal_push ns ms n z e f h = (
+  ap each_free e ∙ free_push ns n (ap (λ n. not (holds_var n)) f ∙ free_literal z) h.0,
+  ap (extents_scoped 1) e
+      ∙ scoped_push 1 ns n (ap (items_scoped 1 0) f ∙ literal_scoped 1 z) h.1,
+)
 
 -- N - 1 over one size
 pub less_one_scoped : items_scoped 1 0 (difference_of (size_form 0) (literal_form (pos 1))) ≡ true

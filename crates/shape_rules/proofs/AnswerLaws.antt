@@ -63,7 +63,7 @@ product_of_free (Err e) a b f h = refused_product a b e f h
 
 pub flat_form : (child : Result Extents Trouble) (ns : Extents) (n m : Items) (rest : Extents) (r : Result Aff AffRefusal) → child ≡ Ok ns → ns ≡ n ∷ rest
     → IfOk child (λ ns. each_free ns ≡ true) → MatchResult r (λ y. y ≡ product_of n m) (λ e. RefusedProduct n m (product_of n m) e)
-        → MatchResult r (λ y. y ≡ product_of n m) (Refused (product_of n m))
+    → MatchResult r (λ y. y ≡ product_of n m) (Refused (product_of n m))
 flat_form child ns n m rest r e f g h =
     let free : each_free (n ∷ rest) ≡ true = subst (λ (r : Result Extents Trouble). IfOk r (λ ns. each_free ns ≡ true)) (e ∙ ap Ok f) g in
     product_of_free r n m (and_parts (not (holds_var n)) (each_free rest) free).0 h

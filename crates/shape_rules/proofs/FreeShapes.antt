@@ -63,7 +63,7 @@ concat_free : (ns ms : Extents) → each_free ns ≡ true → each_free ms ≡ t
 concat_free ns ms h k =
     first_free ns _ h (λ n rest p q. first_free ms _ k (λ m more a b.
     chosen (not (length rest == length more)) _ _ tt
-        (chosen (not (same_forms rest more)) _ _ tt (limited_free (sum_of n m ∷ rest) (put_first (sum_of n m) rest (free_sum n m p a) q)))))
+    (chosen (not (same_forms rest more)) _ _ tt (limited_free (sum_of n m ∷ rest) (put_first (sum_of n m) rest (free_sum n m p a) q)))))
 
 variable_free : (ts : List Extents) (q : ℕ) → all_free ts ≡ true → each_free (get_or ts q []) ≡ true
 variable_free [] q h = refl

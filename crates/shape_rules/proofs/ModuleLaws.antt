@@ -115,7 +115,7 @@ pub module_parts : (m : Module) → module_scoped m ≡ true → (inputs_scoped 
     × (outputs_scoped (length m.sizes) (length m.inputs) m.outputs ≡ true)
 module_parts m h =
     let p = and_parts (all_scoped (length m.sizes) 0 m.assumes)
-        (inputs_scoped (length m.sizes) m.inputs && outputs_scoped (length m.sizes) (length m.inputs) m.outputs) h in
+    (inputs_scoped (length m.sizes) m.inputs && outputs_scoped (length m.sizes) (length m.inputs) m.outputs) h in
     and_parts (inputs_scoped (length m.sizes) m.inputs) (outputs_scoped (length m.sizes) (length m.inputs) m.outputs) p.1
 
 has_shape : (r : Shaped) → IsOk r → (ns : Extents) × (r ≡ Ok ns)
@@ -136,7 +136,7 @@ sound_shapes m sound s a =
           let w = has_shape (shape_of o.term (input_shapes m)) (sound.shaped k d l) in
           each_part s (length m.sizes) o.term 0 (length m.inputs) (input_shapes m) w.0
           (output_scoped (length m.sizes) (length m.inputs) m.outputs k d l (module_parts m sound.scoped).1) w.1
-              (output_goals s m.outputs (input_shapes m) k d l gs.1),
+          (output_goals s m.outputs (input_shapes m) k d l gs.1),
     )
 
 pub sound_tensors : SoundTensors
@@ -145,7 +145,7 @@ sound_tensors m sound s a inputs h k d l =
     let o = get_or m.outputs k d in
     let w = has_shape (shape_of o.term (input_shapes m)) (sound.shaped k d l) in
     let meant = den_meant (length m.sizes) o.term 0 (length m.inputs) (input_shapes m) w.0
-        (output_scoped (length m.sizes) (length m.inputs) m.outputs k d l (module_parts m sound.scoped).1) w.1
+    (output_scoped (length m.sizes) (length m.inputs) m.outputs k d l (module_parts m sound.scoped).1) w.1
     s (output_goals s m.outputs (input_shapes m) k d l gs.1) (input_extents m s) (inputs_values s m.inputs gs.0) in
     meant.1 [] (inputs_bound m.inputs s inputs) (bound_extents s m.inputs inputs h) (bound_shaped s m.inputs inputs h)
 

@@ -32,16 +32,16 @@ module _ (s : List ℕ) (sizes : ℕ) where
   each_part (WordOf x) v t ts ms c h g = whole (WordOf x) v t ts ms c h g
   each_part (index e x) v t ts ms c h g =
       let p = child_ok 0 (shape_of e ts) row_shape ms h in
-          (whole (index e x) v t ts ms c h g, each_part e v t ts p.0 (and_parts (term_scoped sizes e v t) (items_scoped sizes v x) c).0 p.1 g)
+      (whole (index e x) v t ts ms c h g, each_part e v t ts p.0 (and_parts (term_scoped sizes e v t) (items_scoped sizes v x) c).0 p.1 g)
   each_part (gen n e) v t ts ms c h g =
       let p = child_ok 0 (shape_of e ts) (rows_shape n) ms h in
-          (whole (gen n e) v t ts ms c h g, each_part e (v + 1) t ts p.0 (and_parts (items_scoped sizes 0 n) (term_scoped sizes e (v + 1) t) c).1 p.1 g.1)
+      (whole (gen n e) v t ts ms c h g, each_part e (v + 1) t ts p.0 (and_parts (items_scoped sizes 0 n) (term_scoped sizes e (v + 1) t) c).1 p.1 g.1)
   each_part (sum n e) v t ts ms c h g =
       let p = child_ok 0 (shape_of e ts) same_shape ms h in
-          (whole (sum n e) v t ts ms c h g, each_part e (v + 1) t ts p.0 (and_parts (items_scoped sizes 0 n) (term_scoped sizes e (v + 1) t) c).1 p.1 g.1)
+      (whole (sum n e) v t ts ms c h g, each_part e (v + 1) t ts p.0 (and_parts (items_scoped sizes 0 n) (term_scoped sizes e (v + 1) t) c).1 p.1 g.1)
   each_part (guard b e) v t ts ms c h g =
       let p = child_ok 0 (shape_of e ts) same_shape ms h in
-          (whole (guard b e) v t ts ms c h g, each_part e v t ts p.0 (and_parts (cond_scoped sizes v b) (term_scoped sizes e v t) c).1 p.1 g)
+      (whole (guard b e) v t ts ms c h g, each_part e v t ts p.0 (and_parts (cond_scoped sizes v b) (term_scoped sizes e v t) c).1 p.1 g)
   each_part (let_in a b) v t ts ms c h g =
       let cs = and_parts (term_scoped sizes a v t) (term_scoped sizes b v (t + 1)) c in
       let gs = negative_parts s (term_goals a ts) (term_goals b (extents_or_none (shape_of a ts) ∷ ts)) g in
@@ -80,22 +80,24 @@ module _ (s : List ℕ) (sizes : ℕ) where
       let p = child_ok 0 (shape_of e ts) flat_shape ms h in (whole (flatten e) v t ts ms c h g, each_part e v t ts p.0 c p.1 g)
   each_part (split k e) v t ts ms c h g =
       let p = child_ok 0 (shape_of e ts) (tiled_shape k) ms h in
-          (whole (split k e) v t ts ms c h g, each_part e v t ts p.0 (and_parts (nat_lt 0 k && nat_le k largest_tile) (term_scoped sizes e v t) c).1 p.1 g)
+      (whole (split k e) v t ts ms c h g, each_part e v t ts p.0 (and_parts (nat_lt 0 k && nat_le k largest_tile) (term_scoped sizes e v t) c).1 p.1 g)
   each_part (transpose e) v t ts ms c h g =
       let p = child_ok 0 (shape_of e ts) columns_shape ms h in (whole (transpose e) v t ts ms c h g, each_part e v t ts p.0 c p.1 g)
   each_part (trunc_l n e) v t ts ms c h g =
-      let p = child_ok 0 (shape_of e ts) (fewer_shape n) ms h in
-          (whole (trunc_l n e) v t ts ms c h g,
-          each_part e v t ts p.0 (and_parts (items_scoped sizes 0 n) (term_scoped sizes e v t) c).1 p.1
-          (negative_parts s (rest_after n (extents_or_none (shape_of e ts))) (term_goals e ts) g.1).1)
+      let p = child_ok 0 (shape_of e ts) (fewer_shape n) ms h in (
+        whole (trunc_l n e) v t ts ms c h g,
+        each_part e v t ts p.0 (and_parts (items_scoped sizes 0 n) (term_scoped sizes e v t) c).1 p.1
+            (negative_parts s (rest_after n (extents_or_none (shape_of e ts))) (term_goals e ts) g.1).1,
+      )
   each_part (trunc_r n e) v t ts ms c h g =
-      let p = child_ok 0 (shape_of e ts) (fewer_shape n) ms h in
-          (whole (trunc_r n e) v t ts ms c h g,
-          each_part e v t ts p.0 (and_parts (items_scoped sizes 0 n) (term_scoped sizes e v t) c).1 p.1
-          (negative_parts s (rest_after n (extents_or_none (shape_of e ts))) (term_goals e ts) g.1).1)
+      let p = child_ok 0 (shape_of e ts) (fewer_shape n) ms h in (
+        whole (trunc_r n e) v t ts ms c h g,
+        each_part e v t ts p.0 (and_parts (items_scoped sizes 0 n) (term_scoped sizes e v t) c).1 p.1
+            (negative_parts s (rest_after n (extents_or_none (shape_of e ts))) (term_goals e ts) g.1).1,
+      )
   each_part (pad_l n e) v t ts ms c h g =
       let p = child_ok 0 (shape_of e ts) (more_shape n) ms h in
-          (whole (pad_l n e) v t ts ms c h g, each_part e v t ts p.0 (and_parts (items_scoped sizes 0 n) (term_scoped sizes e v t) c).1 p.1 g.1)
+      (whole (pad_l n e) v t ts ms c h g, each_part e v t ts p.0 (and_parts (items_scoped sizes 0 n) (term_scoped sizes e v t) c).1 p.1 g.1)
   each_part (pad_r n e) v t ts ms c h g =
       let p = child_ok 0 (shape_of e ts) (more_shape n) ms h in
-          (whole (pad_r n e) v t ts ms c h g, each_part e v t ts p.0 (and_parts (items_scoped sizes 0 n) (term_scoped sizes e v t) c).1 p.1 g.1)
+      (whole (pad_r n e) v t ts ms c h g, each_part e v t ts p.0 (and_parts (items_scoped sizes 0 n) (term_scoped sizes e v t) c).1 p.1 g.1)

@@ -124,7 +124,7 @@ concat_shape (n ∷ d) [] x y f g t a b = absurd g
 concat_shape (n ∷ d) (m ∷ e) x y f g t a b =
     let c : HasShape (m ∷ d) y = subst (λ (e : List ℕ). HasShape (m ∷ e) y) t b in
     listed_rows (HasShape d) (n + m) _
-        (listed_append (HasShape d) n m (rows_of x) (rows_of y) (rows_listed (HasShape d) n x a) (rows_listed (HasShape d) m y c))
+    (listed_append (HasShape d) n m (rows_of x) (rows_of y) (rows_listed (HasShape d) n x a) (rows_listed (HasShape d) m y c))
 
 joined_listed : (P : Tensor → Type 0) (n m : ℕ) (xs : List Tensor) → Listed (HasRows P m) n xs → Listed P (n * m) (joined xs)
 joined_listed P zero m [] none = let e : 0 ≡ zero * m = omega arith in subst (λ (i : ℕ). Listed P i []) e none
@@ -133,7 +133,7 @@ joined_listed P (suc n) m [] h = elim h [ ]
 joined_listed P (suc n) m (x ∷ xs) (one p h) =
     let e : m + n * m ≡ suc n * m = omega arith in
     subst (λ (i : ℕ). Listed P i (rows_of x ++ joined xs)) e
-        (listed_append P m (n * m) (rows_of x) (joined xs) (rows_listed P m x p) (joined_listed P n m xs h))
+    (listed_append P m (n * m) (rows_of x) (joined xs) (rows_listed P m x p) (joined_listed P n m xs h))
 
 pub flatten_shape : (d : List ℕ) (x : Tensor) → HasTwo d → HasShape d x →
     HasShape ((head_of d * head_of (tail_of d)) ∷ tail_of (tail_of d)) (from_rows (joined (rows_of x)))
@@ -152,7 +152,7 @@ pub split_shape : (k : ℕ) (d : List ℕ) (x : Tensor) → HasFirst d → HasSh
 split_shape k [] x f h = absurd f
 split_shape k (n ∷ d) x f h =
     listed_rows (HasShape (k ∷ d)) ((n + k - 1) / k) _
-        (chunks_listed (HasShape d) (zeros d) (zeros_shape d) ((n + k - 1) / k) k n (rows_of x) (rows_listed (HasShape d) n x h))
+    (chunks_listed (HasShape d) (zeros d) (zeros_shape d) ((n + k - 1) / k) k n (rows_of x) (rows_listed (HasShape d) n x h))
 
 pub transpose_shape : (d : List ℕ) (x : Tensor) → HasTwo d → HasShape d x →
     HasShape (head_of (tail_of d) ∷ head_of d ∷ tail_of (tail_of d)) (from_rows (columns (head_of (tail_of d)) (zeros (tail_of (tail_of d))) (rows_of x)))
@@ -177,8 +177,8 @@ drop_last_shape a [] x f h = absurd f
 drop_last_shape a (n ∷ d) x f h =
     let l = rows_listed (HasShape d) n x h in
     listed_rows (HasShape d) (n - a) _
-        (subst (λ (k : ℕ). Listed (HasShape d) (n - a) (take (k - a) (rows_of x))) (sym (listed_length (HasShape d) n (rows_of x) l))
-        (take_some (HasShape d) a n (rows_of x) l))
+    (subst (λ (k : ℕ). Listed (HasShape d) (n - a) (take (k - a) (rows_of x))) (sym (listed_length (HasShape d) n (rows_of x) l))
+    (take_some (HasShape d) a n (rows_of x) l))
 
 pub pad_l_shape : (a : ℕ) (d : List ℕ) (x : Tensor) → HasFirst d → HasShape d x
     → HasShape ((head_of d + a) ∷ tail_of d) (from_rows (copies a (zeros (tail_of d)) ++ rows_of x))
@@ -193,4 +193,4 @@ pub pad_r_shape : (a : ℕ) (d : List ℕ) (x : Tensor) → HasFirst d → HasSh
 pad_r_shape a [] x f h = absurd f
 pad_r_shape a (n ∷ d) x f h =
     listed_rows (HasShape d) (n + a) _
-        (listed_append (HasShape d) n a _ _ (rows_listed (HasShape d) n x h) (listed_copies (HasShape d) a (zeros d) (zeros_shape d)))
+    (listed_append (HasShape d) n a _ _ (rows_listed (HasShape d) n x h) (listed_copies (HasShape d) a (zeros d) (zeros_shape d)))

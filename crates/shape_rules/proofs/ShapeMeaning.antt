@@ -49,7 +49,7 @@ module _ (s : List ℕ) where
   let_meant : (a : Shaped) (b : Extents → Shaped) (ms : Extents) (da d' : List ℕ) (F G : Type 0)
       → with_child 0 a (λ ns. with_child 1 (b ns) (λ ms. Ok ms)) ≡ Ok ms
       → ((ns : Extents) → a ≡ Ok ns → Meant ns da F) → ((ns : Extents) → a ≡ Ok ns → HaveValues s ns da → b ns ≡ Ok ms → Meant ms d' G) → HaveValues s ms d'
-          × (F × G)
+      × (F × G)
   let_meant (Ok ns) b ms da d' F G h k l = let p = k ns refl in let q = l ns refl p.0 (body (b ns) h) in (q.0, (p.1, q.1))
     where
       body : (r : Shaped) → with_child 1 r same_shape ≡ Ok ms → r ≡ Ok ms
@@ -86,30 +86,30 @@ module _ (s : List ℕ) where
         let cs = and_parts (term_scoped sizes a v t) (term_scoped sizes b v (t + 1)) c in
         let_meant (shape_of a ts) (λ ns. shape_of b (ns ∷ ts)) ms (dims a s ds) _ _ _ h (λ ns q. shape_meant a v t ts ds ns cs.0 q gs.0 f)
         (λ ns q p k. shape_meant b v (t + 1) (ns ∷ ts) (dims a s ds ∷ ds) ms cs.1 k
-            (subst (λ (r : Shaped). NoneNegative s (term_goals b (extents_or_none r ∷ ts))) q gs.1) (p, f))
+        (subst (λ (r : Shaped). NoneNegative s (term_goals b (extents_or_none r ∷ ts))) q gs.1) (p, f))
     shape_meant (add a b) v t ts ds ms c h g f =
         let gs = negative_parts s (term_goals a ts) (term_goals b ts) g in
         let cs = and_parts (term_scoped sizes a v t) (term_scoped sizes b v t) c in
         two_meant (shape_of a ts) (shape_of b ts) of_equal ms (dims a s ds) (dims b s ds) _ _ _ _ h (λ ns q. shape_meant a v t ts ds ns cs.0 q gs.0 f)
-            (λ ns q. shape_meant b v t ts ds ns cs.1 q gs.1 f)
+        (λ ns q. shape_meant b v t ts ds ns cs.1 q gs.1 f)
         (λ ns ks p o k. equal_values s ns ks (dims a s ds) (dims b s ds) ms p o k)
     shape_meant (sub a b) v t ts ds ms c h g f =
         let gs = negative_parts s (term_goals a ts) (term_goals b ts) g in
         let cs = and_parts (term_scoped sizes a v t) (term_scoped sizes b v t) c in
         two_meant (shape_of a ts) (shape_of b ts) of_equal ms (dims a s ds) (dims b s ds) _ _ _ _ h (λ ns q. shape_meant a v t ts ds ns cs.0 q gs.0 f)
-            (λ ns q. shape_meant b v t ts ds ns cs.1 q gs.1 f)
+        (λ ns q. shape_meant b v t ts ds ns cs.1 q gs.1 f)
         (λ ns ks p o k. equal_values s ns ks (dims a s ds) (dims b s ds) ms p o k)
     shape_meant (mul a b) v t ts ds ms c h g f =
         let gs = negative_parts s (term_goals a ts) (term_goals b ts) g in
         let cs = and_parts (term_scoped sizes a v t) (term_scoped sizes b v t) c in
         two_meant (shape_of a ts) (shape_of b ts) of_words ms (dims a s ds) (dims b s ds) _ _ _ _ h (λ ns q. shape_meant a v t ts ds ns cs.0 q gs.0 f)
-            (λ ns q. shape_meant b v t ts ds ns cs.1 q gs.1 f)
+        (λ ns q. shape_meant b v t ts ds ns cs.1 q gs.1 f)
         (λ ns ks p o k. let w = words_values s ns ks (dims a s ds) (dims b s ds) ms p o k in (w.0, (w.1, w.2)))
     shape_meant (concat a b) v t ts ds ms c h g f =
         let gs = negative_parts s (term_goals a ts) (term_goals b ts) g in
         let cs = and_parts (term_scoped sizes a v t) (term_scoped sizes b v t) c in
         two_meant (shape_of a ts) (shape_of b ts) of_concat ms (dims a s ds) (dims b s ds) _ _ _ _ h (λ ns q. shape_meant a v t ts ds ns cs.0 q gs.0 f)
-            (λ ns q. shape_meant b v t ts ds ns cs.1 q gs.1 f)
+        (λ ns q. shape_meant b v t ts ds ns cs.1 q gs.1 f)
         (λ ns ks p o k. let w = concat_values s ns ks (dims a s ds) (dims b s ds) ms p o k in (w.0, (w.1, w.2, w.3)))
     shape_meant (flatten e) v t ts ds ms c h g f =
         one_meant (shape_of e ts) flat_shape ms (dims e s ds) _ _ _ h (λ ns q. shape_meant e v t ts ds ns c q g f)
@@ -117,19 +117,19 @@ module _ (s : List ℕ) where
     shape_meant (split k e) v t ts ds ms c h g f =
         let cs = and_parts (nat_lt 0 k && nat_le k largest_tile) (term_scoped sizes e v t) c in
         one_meant (shape_of e ts) (tiled_shape k) ms (dims e s ds) _ _ _ h (λ ns q. shape_meant e v t ts ds ns cs.1 q g f)
-            (λ ns q p l. tiled_values s k ns (dims e s ds) ms (tile_positive k (nat_le k largest_tile) cs.0) p l)
+        (λ ns q p l. tiled_values s k ns (dims e s ds) ms (tile_positive k (nat_le k largest_tile) cs.0) p l)
     shape_meant (transpose e) v t ts ds ms c h g f =
         one_meant (shape_of e ts) columns_shape ms (dims e s ds) _ _ _ h (λ ns q. shape_meant e v t ts ds ns c q g f)
         (λ ns q p k. columns_values s ns (dims e s ds) ms p k)
     shape_meant (trunc_l n e) v t ts ds ms c h g f =
         let gs = negative_parts s (rest_after n (extents_or_none (shape_of e ts))) (term_goals e ts) g.1 in
         one_meant (shape_of e ts) (fewer_shape n) ms (dims e s ds) _ _ _ h
-            (λ ns q. shape_meant e v t ts ds ns (and_parts (items_scoped sizes 0 n) (term_scoped sizes e v t) c).1 q gs.1 f)
+        (λ ns q. shape_meant e v t ts ds ns (and_parts (items_scoped sizes 0 n) (term_scoped sizes e v t) c).1 q gs.1 f)
         (λ ns q p k. fewer_values s n ns (dims e s ds) ms g.0 (subst (λ (r : Shaped). NoneNegative s (rest_after n (extents_or_none r))) q gs.0) p k)
     shape_meant (trunc_r n e) v t ts ds ms c h g f =
         let gs = negative_parts s (rest_after n (extents_or_none (shape_of e ts))) (term_goals e ts) g.1 in
         one_meant (shape_of e ts) (fewer_shape n) ms (dims e s ds) _ _ _ h
-            (λ ns q. shape_meant e v t ts ds ns (and_parts (items_scoped sizes 0 n) (term_scoped sizes e v t) c).1 q gs.1 f)
+        (λ ns q. shape_meant e v t ts ds ns (and_parts (items_scoped sizes 0 n) (term_scoped sizes e v t) c).1 q gs.1 f)
         (λ ns q p k. fewer_values s n ns (dims e s ds) ms g.0 (subst (λ (r : Shaped). NoneNegative s (rest_after n (extents_or_none r))) q gs.0) p k)
     shape_meant (pad_l n e) v t ts ds ms c h g f =
         one_meant (shape_of e ts) (more_shape n) ms (dims e s ds) _ _ _ h
@@ -143,6 +143,8 @@ module _ (s : List ℕ) where
 -- the tensor of a term has the extents that its shape tells
 pub den_meant : (sizes : ℕ) (e : Term) (v t : ℕ) (ts : List Extents) (ms : Extents) → term_scoped sizes e v t ≡ true → shape_of e ts ≡ Ok ms → IsMeant ts e ms
 den_meant sizes e v t ts ms c h s g ds f =
-    let m = shape_meant s sizes e v t ts ds ms c h g f in
-    (m.0, λ r bs q k. subst (λ (ds : List (List ℕ)). HasShape (dims e s ds) (den e s r bs)) q
-        (den_shape e s r bs (subst (λ (ds : List (List ℕ)). ShapesFit e s ds) (sym q) m.1) k))
+    let m = shape_meant s sizes e v t ts ds ms c h g f in (
+      m.0,
+      λ r bs q k. subst (λ (ds : List (List ℕ)). HasShape (dims e s ds) (den e s r bs)) q
+          (den_shape e s r bs (subst (λ (ds : List (List ℕ)). ShapesFit e s ds) (sym q) m.1) k),
+    )

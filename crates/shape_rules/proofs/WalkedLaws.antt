@@ -27,8 +27,11 @@ walked_is (sum n e) ts = (λ i. fold-sum Walking walked_step n e i ts) ∙ (λ i
 walked_is (guard c e) ts = (λ i. fold-guard Walking walked_step c e i ts) ∙ (λ i. one (walked_is e ts i) same_shape [])
 walked_is (let_in a b) ts = (λ i. fold-let_in Walking walked_step a b i ts)
     ∙ (λ i. two (walked_is a ts i) (walked_is b (extents_or_none (walked_is a ts i).shape ∷ ts) i) (λ ns ms. Ok ms))
-    ∙ (λ i. record { shape = let_shape (shape_of a ts) (λ ns. with_child 1 (shape_of b (ns ∷ ts)) (λ ms. Ok ms)) i; goals =
-        term_goals a ts ++ term_goals b (extents_or_none (shape_of a ts) ∷ ts) })
+    ∙ (λ i. record {
+      shape = let_shape (shape_of a ts) (λ ns. with_child 1 (shape_of b (ns ∷ ts)) (λ ms. Ok ms)) i;
+      goals =
+          term_goals a ts ++ term_goals b (extents_or_none (shape_of a ts) ∷ ts);
+    })
 walked_is (add a b) ts = (λ i. fold-add Walking walked_step a b i ts) ∙ (λ i. two (walked_is a ts i) (walked_is b ts i) of_equal)
 walked_is (sub a b) ts = (λ i. fold-sub Walking walked_step a b i ts) ∙ (λ i. two (walked_is a ts i) (walked_is b ts i) of_equal)
 walked_is (mul a b) ts = (λ i. fold-mul Walking walked_step a b i ts) ∙ (λ i. two (walked_is a ts i) (walked_is b ts i) of_words)

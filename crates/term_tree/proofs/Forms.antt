@@ -73,5 +73,21 @@ pub PadR-is : (n : Aff) (e : Term) → PadR n e ≡ pad_r n e
 unfolding shape-the_row-Term-0 hidden-the_row-Term-0 hidden
 PadR-is n e = refl
 
-pub ruleset term_forms = (Index-is, Gen-is, Sum-is, Guard-is, Let-is, Add-is, Sub-is, Mul-is, Concat-is, Flatten-is, Split-is, Transpose-is, TruncL-is,
-    TruncR-is, PadL-is, PadR-is)
+pub ruleset term_forms = (
+  Index-is,
+  Gen-is,
+  Sum-is,
+  Guard-is,
+  Let-is,
+  Add-is,
+  Sub-is,
+  Mul-is,
+  Concat-is,
+  Flatten-is,
+  Split-is,
+  Transpose-is,
+  TruncL-is,
+  TruncR-is,
+  PadL-is,
+  PadR-is,
+)

@@ -327,7 +327,7 @@ too_large = simp form_laws
 -- truncr(a, gen i < N. 1): a, N - a, N
 trunc_goals : term_goals (trunc_r (size_form 1) (gen (size_form 0) (Lit 1))) []
     ≡ size_form 1 ∷ record { terms = record { atom = Size 0; coefficient = pos 1 } ∷ record { atom = Size 1; coefficient = negsuc 0 } ∷ []; constant = pos 0 }
-        ∷ size_form 0 ∷ []
+    ∷ size_form 0 ∷ []
 trunc_goals = simp form_laws
 
 -- let t = gen i < N. 1 in truncl(2, t): those of the definition, then those of the body, where t has N rows
@@ -360,8 +360,11 @@ two_outputs = record {
   assumes = [];
   example = 3 ∷ [];
   inputs = record { name = []; extents = size_form 0 ∷ [] } ∷ [];
-  outputs = record { name = []; term =
-      gen (size_form 0) (mul (entry 0 0) (WordOf (record { terms = record { atom = Var 0; coefficient = pos 1 } ∷ []; constant = pos 1 }))) }
+  outputs = record {
+    name = [];
+    term =
+        gen (size_form 0) (mul (entry 0 0) (WordOf (record { terms = record { atom = Var 0; coefficient = pos 1 } ∷ []; constant = pos 1 })));
+  }
       ∷ record { name = []; term = sum (size_form 0) (WordOf before) } ∷ [];
 }
 
@@ -397,8 +400,15 @@ sound = record {
 
 -- output B = gen i < N - 1. 1, where N may be 0
 abbrev unsound : Module
-unsound = record { version = 1; sizes = record { name = []; low = 0; high = 8 } ∷ []; assumes = []; example = 3 ∷ []; inputs = []; outputs =
-    record { name = []; term = gen less_one (Lit 1) } ∷ [] }
+unsound = record {
+  version = 1;
+  sizes = record { name = []; low = 0; high = 8 } ∷ [];
+  assumes = [];
+  example = 3 ∷ [];
+  inputs = [];
+  outputs =
+      record { name = []; term = gen less_one (Lit 1) } ∷ [];
+}
 
 negative : at_least_zero (items_value (0 ∷ []) [] less_one) ≡ false
 negative = simp row_laws
@@ -406,7 +416,7 @@ negative = simp row_laws
 not_sound : IsSound unsound → ⊥
 not_sound m =
     let positive : at_least_zero (items_value (0 ∷ []) [] less_one) ≡ true =
-        m.positive (0 ∷ []) (record { within = (omega arith, omega arith, tt); assumed = refl }) 0 less_one (omega arith) in
+    m.positive (0 ∷ []) (record { within = (omega arith, omega arith, tt); assumed = refl }) 0 less_one (omega arith) in
     absurd (false≢true (sym negative ∙ positive))
 
 -- a variable stands in an index and not in an extent
@@ -431,8 +441,11 @@ no_comparison = refl
 
 -- N * M + K words, one behind another
 concatenated : shape_of (concat (flatten (TVar 0)) (TVar 1)) ((size_form 0 ∷ size_form 1 ∷ []) ∷ (size_form 2 ∷ []) ∷ [])
-    ≡ Ok (record { terms = record { atom = Size 2; coefficient = pos 1 } ∷ record { atom = Mul (Size 0 ∷ Size 1 ∷ []); coefficient = pos 1 } ∷ []; constant =
-        pos 0 } ∷ [])
+    ≡ Ok (record {
+      terms = record { atom = Size 2; coefficient = pos 1 } ∷ record { atom = Mul (Size 0 ∷ Size 1 ∷ []); coefficient = pos 1 } ∷ [];
+      constant =
+          pos 0;
+    } ∷ [])
 concatenated = simp form_laws
 
 unequal_rows : shape_of (concat (TVar 0) (TVar 1)) ((size_form 0 ∷ size_form 1 ∷ []) ∷ (size_form 2 ∷ size_form 0 ∷ []) ∷ []) ≡ at_path [] ShapesDiffer

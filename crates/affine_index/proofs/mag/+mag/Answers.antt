@@ -22,7 +22,7 @@ factors_mag-loop-atom-preserved t c =
     let p = c.loop-atom.product in
     let r = factors_magnitude s v (drop (at + 1) fs) in
     let e : c.times-product.result ≡ min (p * min (atom_magnitude s v x) (2 ^ 63)) (2 ^ 63) =
-        c.times-product.ensures ∙ ap (λ m. min (p * m) (2 ^ 63)) c.atom_mag.ensures in
+    c.times-product.ensures ∙ ap (λ m. min (p * m) (2 ^ 63)) c.atom_mag.ensures in
     record {
       ready = atoms-ready-next (length s) (length v) fs at x c.loop-atom-test.true c.atom-item.is c.loop-atom.invariant.ready;
       stop = omega (arith, e);

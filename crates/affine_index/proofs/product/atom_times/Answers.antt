@@ -20,8 +20,14 @@ loop-at-preserved c =
     let e : t ≡ get_or ts at t = c.get-item.ensures ∙ ap (λ us. get_or us at t) c.terms-in-loop-at.ensures in
     let s : c.in_ok-total-2.total ≡ sum_of c.loop-at.total (scaled t.coefficient (of_atom (atom_product x t.atom))) = c.in_ok-total-2.ensures {u = tt} in
     record {
-      room = omega (arith, ap norm s, sum-norm c.loop-at.total (scaled t.coefficient (of_atom (atom_product x t.atom))),
-          scaled-norm t.coefficient (of_atom (atom_product x t.atom)), norm-step ts at t lt e, c.loop-at.invariant.room);
+      room = omega (
+        arith,
+        ap norm s,
+        sum-norm c.loop-at.total (scaled t.coefficient (of_atom (atom_product x t.atom))),
+        scaled-norm t.coefficient (of_atom (atom_product x t.atom)),
+        norm-step ts at t lt e,
+        c.loop-at.invariant.room,
+      );
       rest = ap (add_up (atom_products x (drop (at + 1) ts))) s ∙ atom_times-step x ts at t c.loop-at.total lt e ∙ c.loop-at.invariant.rest;
     }
 
@@ -32,7 +38,7 @@ loop-at-init c =
     let wide : SFits w128 c.constant.result = search rules in
     let z = to_z-of_z w128 c.constant.result wide ∙ c.constant.ensures in
     let p : c.in_ok-total.total ≡ scaled form.constant (of_atom x) =
-        c.in_ok-total.ensures {u = tt} ∙ (λ k. scaled (z k) (of_atom (c.in_ok-copy_atom.ensures {u = tt} k))) in
+    c.in_ok-total.ensures {u = tt} ∙ (λ k. scaled (z k) (of_atom (c.in_ok-copy_atom.ensures {u = tt} k))) in
     record {
       room = omega (arith, ap norm p, scaled-norm form.constant (of_atom x));
       rest = ap (add_up (atom_products x form.terms)) p;

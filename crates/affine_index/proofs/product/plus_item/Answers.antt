@@ -20,8 +20,12 @@ scaled-requires c =
     let z = to_z-of_z w128 c.coefficient.result wide ∙ c.coefficient.ensures in
     let times : c.in_ok-times.times ≡ atom_times t.atom b = c.in_ok-times.ensures {u = tt} ∙ ap (λ x. atom_times x b) c.atom.ensures in
     let fits : ℤ → Type 0 = λ x. unsigned_abs x * norm c.in_ok-times.times < 2 ^ 127 in
-    subst fits (sym z) (omega (arith, ap (λ i. unsigned_abs t.coefficient * norm i) times,
-        most (unsigned_abs t.coefficient) (norm (atom_times t.atom b)) (norm b) (atom_times-norm t.atom b), c.requires.room))
+    subst fits (sym z) (omega (
+      arith,
+      ap (λ i. unsigned_abs t.coefficient * norm i) times,
+      most (unsigned_abs t.coefficient) (norm (atom_times t.atom b)) (norm b) (atom_times-norm t.atom b),
+      c.requires.room,
+    ))
 
 pub sum-requires : goal.sum-requires
 sum-requires c =
@@ -31,8 +35,13 @@ sum-requires c =
     let z = to_z-of_z w128 c.coefficient.result wide ∙ c.coefficient.ensures in
     let times : c.in_ok-times.times ≡ atom_times t.atom b = c.in_ok-times.ensures {u = tt} ∙ ap (λ x. atom_times x b) c.atom.ensures in
     let p : c.in_ok-product.product ≡ scaled t.coefficient (atom_times t.atom b) = c.in_ok-product.ensures {u = tt} ∙ (λ k. scaled (z k) (times k)) in
-    omega (arith, ap norm p, scaled-norm t.coefficient (atom_times t.atom b),
-        most (unsigned_abs t.coefficient) (norm (atom_times t.atom b)) (norm b) (atom_times-norm t.atom b), c.requires.room)
+    omega (
+      arith,
+      ap norm p,
+      scaled-norm t.coefficient (atom_times t.atom b),
+      most (unsigned_abs t.coefficient) (norm (atom_times t.atom b)) (norm b) (atom_times-norm t.atom b),
+      c.requires.room,
+    )
 
 pub returns : goal.returns
 returns c =

@@ -22,9 +22,15 @@ loop-at-preserved c =
     let e : t ≡ get_or ts at t = c.get-item.ensures ∙ ap (λ us. get_or us at t) c.terms-in-loop-at.ensures in
     let s : c.in_ok-total-2.total ≡ sum_of c.loop-at.total (scaled t.coefficient (atom_times t.atom b)) = c.in_ok-total-2.ensures {u = tt} in
     record {
-      room = omega (arith, ap norm s, sum-norm c.loop-at.total (scaled t.coefficient (atom_times t.atom b)), scaled-norm t.coefficient (atom_times t.atom b),
-          most (unsigned_abs t.coefficient) (norm (atom_times t.atom b)) (norm b) (atom_times-norm t.atom b), ap (λ n. n * norm b) (norm-step ts at t lt e),
-          c.loop-at.invariant.room);
+      room = omega (
+        arith,
+        ap norm s,
+        sum-norm c.loop-at.total (scaled t.coefficient (atom_times t.atom b)),
+        scaled-norm t.coefficient (atom_times t.atom b),
+        most (unsigned_abs t.coefficient) (norm (atom_times t.atom b)) (norm b) (atom_times-norm t.atom b),
+        ap (λ n. n * norm b) (norm-step ts at t lt e),
+        c.loop-at.invariant.room,
+      );
       rest = ap (add_up (term_products (drop (at + 1) ts) b)) s ∙ product-step ts b at t c.loop-at.total lt e ∙ c.loop-at.invariant.rest;
     }
 

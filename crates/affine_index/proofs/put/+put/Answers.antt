@@ -28,7 +28,7 @@ put_atom-put_items-requires t c = (
     c.requires.normal,
     ap is_normal c.get.ensures
         ∙ dividend-normal c.in-Div.items c.in-Div.divisor (subst Ordered c.in-Div.is c.requires.ordered)
-            (omega (arith, ap atom_count c.in-Div.is, c.requires.short)),
+        (omega (arith, ap atom_count c.in-Div.is, c.requires.short)),
   ),
 )
 
@@ -39,7 +39,7 @@ pub put_atom-quotient-requires-clause-room : goal.put_atom-quotient-requires-cla
 put_atom-quotient-requires-clause-room t c =
     dividend-room (what_put c.args.by.now) c.requires.normal c.in-Div.items c.in_ok-form-in-Div.form
     (dividend-normal c.in-Div.items c.in-Div.divisor (subst Ordered c.in-Div.is c.requires.ordered)
-        (omega (arith, ap atom_count c.in-Div.is, c.requires.short)))
+    (omega (arith, ap atom_count c.in-Div.is, c.requires.short)))
     (c.in_ok-form-in-Div.ensures {u = tt} ∙ ap (put_all (what_put c.args.by.now)) c.get.ensures)
 
 pub put_factors-put_atom-requires : goal.put_factors-put_atom-requires
@@ -47,10 +47,16 @@ put_factors-put_atom-requires t c =
     let fs = c.args.factors.now in
     let at = c.loop-left.left - 1 in
     let x = c.index-factors-left.result in
-    let lt : at < length fs = omega (arith, c.loop-left.invariant.within, c.loop-left-test.true) in
-    (search (rules, the_lemmas),
-        (c.requires.normal, (factor-ordered fs at x c.requires.ordered lt c.index-factors-left.is,
-        factor-few fs at x c.requires.short lt c.index-factors-left.is)))
+    let lt : at < length fs = omega (arith, c.loop-left.invariant.within, c.loop-left-test.true) in (
+      search (rules, the_lemmas),
+      (
+        c.requires.normal,
+        (
+          factor-ordered fs at x c.requires.ordered lt c.index-factors-left.is,
+          factor-few fs at x c.requires.short lt c.index-factors-left.is,
+        ),
+      ),
+    )
 
 pub put_factors-product-requires : goal.put_factors-product-requires
 put_factors-product-requires t c =
@@ -60,9 +66,9 @@ put_factors-product-requires t c =
     let x = c.index-factors-left.result in
     let lt : at < length fs = omega (arith, c.loop-left.invariant.within, c.loop-left-test.true) in
     let both = product-room f c.requires.normal c.in_ok-form.form c.loop-left.forms x fs c.loop-left.left (c.in_ok-form.ensures {u = tt})
-        c.loop-left.invariant.rest
+    c.loop-left.invariant.rest
     (factor-ordered fs at x c.requires.ordered lt c.index-factors-left.is) (factor-few fs at x c.requires.short lt c.index-factors-left.is) c.requires.ordered
-        c.requires.short in
+    c.requires.short in
     record { room = both.0; second = both.1 }
 
 pub put_factors-loop-left-preserved : goal.put_factors-loop-left-preserved
@@ -109,14 +115,14 @@ put_items-returns t c =
 pub put_terms-put_atom-requires : goal.put_terms-put_atom-requires
 put_terms-put_atom-requires t c =
     let facts = item_facts c.args.terms.now c.loop-term.term-index c.term-item.result c.loop-term-test.true c.term-item.is c.requires.ordered c.requires.fits
-        c.requires.short in
+    c.requires.short in
     (search (rules, the_lemmas), (c.requires.normal, (facts.ordered, facts.short)))
 
 pub put_terms-scaled-requires : goal.put_terms-scaled-requires
 put_terms-scaled-requires t c =
     let item = c.term-item.result in
     let facts = item_facts c.args.terms.now c.loop-term.term-index item c.loop-term-test.true c.term-item.is c.requires.ordered c.requires.fits c.requires.short
-        in
+    in
     let wide : SFits w128 c.from-in-loop-term.result = search rules in
     let word : SFits w64 item.coefficient = search rules in
     let z = to_z-of_z w128 c.from-in-loop-term.result wide ∙ c.from-in-loop-term.ensures ∙ to_z-of_z w64 item.coefficient word in
@@ -134,7 +140,7 @@ put_terms-sum-requires t c =
     let word : SFits w64 item.coefficient = search rules in
     let z = to_z-of_z w128 c.from-in-loop-term.result wide ∙ c.from-in-loop-term.ensures ∙ to_z-of_z w64 item.coefficient word in
     let p : c.in_ok-product.product ≡ scaled item.coefficient (put_atom f item.atom) =
-        c.in_ok-product.ensures {u = tt} ∙ (λ k. scaled (z k) (c.in_ok-form.ensures {u = tt} k)) in
+    c.in_ok-product.ensures {u = tt} ∙ (λ k. scaled (z k) (c.in_ok-form.ensures {u = tt} k)) in
     omega (arith, ap norm p, room-next f c.requires.normal ts at item c.loop-term-test.true c.term-item.is facts, c.loop-term.invariant.room, c.requires.short)
 
 pub put_terms-loop-term-preserved : goal.put_terms-loop-term-preserved
@@ -148,12 +154,17 @@ put_terms-loop-term-preserved t c =
     let word : SFits w64 item.coefficient = search rules in
     let z = to_z-of_z w128 c.from-in-loop-term.result wide ∙ c.from-in-loop-term.ensures ∙ to_z-of_z w64 item.coefficient word in
     let p : c.in_ok-product.product ≡ scaled item.coefficient (put_atom f item.atom) =
-        c.in_ok-product.ensures {u = tt} ∙ (λ k. scaled (z k) (c.in_ok-form.ensures {u = tt} k)) in
+    c.in_ok-product.ensures {u = tt} ∙ (λ k. scaled (z k) (c.in_ok-form.ensures {u = tt} k)) in
     let s : c.in_ok-total.total ≡ sum_of c.loop-term.total (scaled item.coefficient (put_atom f item.atom)) =
-        c.in_ok-total.ensures {u = tt} ∙ ap (sum_of c.loop-term.total) p in
+    c.in_ok-total.ensures {u = tt} ∙ ap (sum_of c.loop-term.total) p in
     record {
-      room = omega (arith, ap norm s, sum-norm c.loop-term.total (scaled item.coefficient (put_atom f item.atom)),
-          room-next f c.requires.normal ts at item c.loop-term-test.true c.term-item.is facts, c.loop-term.invariant.room);
+      room = omega (
+        arith,
+        ap norm s,
+        sum-norm c.loop-term.total (scaled item.coefficient (put_atom f item.atom)),
+        room-next f c.requires.normal ts at item c.loop-term-test.true c.term-item.is facts,
+        c.loop-term.invariant.room,
+      );
       rest = ap (put_terms f (drop (at + 1) ts)) s ∙ put_terms-next f ts at item c.loop-term.total c.loop-term-test.true c.term-item.is
           ∙ c.loop-term.invariant.rest;
     }

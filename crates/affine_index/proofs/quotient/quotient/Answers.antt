@@ -24,5 +24,5 @@ sum-requires c =
     let rest = c.in_ok-rest.ensures {u = tt} ∙ ap (rest_terms k) c.into_terms.ensures in
     let left = to_z-of_z w64 c.remainder-constant.result rest-fits ∙ c.remainder-constant.ensures ∙ ap (λ z. int_rem_euclid z (pos k)) second in
     let y : c.in_ok-atom.atom ≡ quotient_atom (rest_part form k).terms (rest_part form k).constant k =
-        c.in_ok-atom.ensures {u = tt} ∙ (λ j. quotient_atom (rest j) (left j) k) in
+    c.in_ok-atom.ensures {u = tt} ∙ (λ j. quotient_atom (rest j) (left j) k) in
     quotient-room form c.new-whole.result c.in_ok-atom.atom k c.requires.positive x y c.requires.room

@@ -16,4 +16,4 @@ within_limits-requires c =
 pub returns-clause-form : goal.returns-clause-form
 returns-clause-form c =
     subst (λ (z : Items). MatchResult c.within_limits.result (λ r. r ≡ z) (λ e. Refused z e))
-        (c.in_ok-items.ensures {u = tt} ∙ ap (put_all (what_put c.args.by.now)) c.items.ensures.form) c.within_limits.ensures
+    (c.in_ok-items.ensures {u = tt} ∙ ap (put_all (what_put c.args.by.now)) c.items.ensures.form) c.within_limits.ensures

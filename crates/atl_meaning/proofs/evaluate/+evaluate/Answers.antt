@@ -42,11 +42,19 @@ evaluate-rows-requires t c =
     let f = fits-Gen s (extents_of (scope c.args.bindings.now)) c.args.term.now c.in-Gen.n c.in-Gen.e c.in-Gen.is c.requires.fits in
     let p = counted-Gen s c.args.term.now c.in-Gen.n c.in-Gen.e c.in-Gen.is c.requires.counted in
     let q = exact-Gen s c.args.term.now c.in-Gen.n c.in-Gen.e c.args.vars.now c.in-Gen.is c.requires.exact in
-    let child = sym c.get-in-Gen.ensures in
-    (search (rules, the_lemmas),
-        (p.0, (subst (λ (e : Term). counted s e ≡ true) child p.1,
-        (subst (λ (e : Term). fits_in s e c.args.bindings.now ≡ true) child f,
-        subst (λ (e : Term). exact_below s (extent c.in-Gen.n s) e c.args.vars.now ≡ true) child q))))
+    let child = sym c.get-in-Gen.ensures in (
+      search (rules, the_lemmas),
+      (
+        p.0,
+        (
+          subst (λ (e : Term). counted s e ≡ true) child p.1,
+          (
+            subst (λ (e : Term). fits_in s e c.args.bindings.now ≡ true) child f,
+            subst (λ (e : Term). exact_below s (extent c.in-Gen.n s) e c.args.vars.now ≡ true) child q,
+          ),
+        ),
+      ),
+    )
 
 pub evaluate-sum-requires : goal.evaluate-sum-requires
 evaluate-sum-requires t c =
@@ -54,11 +62,19 @@ evaluate-sum-requires t c =
     let f = fits-Sum s (extents_of (scope c.args.bindings.now)) c.args.term.now c.in-Sum.n c.in-Sum.e c.in-Sum.is c.requires.fits in
     let p = counted-Sum s c.args.term.now c.in-Sum.n c.in-Sum.e c.in-Sum.is c.requires.counted in
     let q = exact-Sum s c.args.term.now c.in-Sum.n c.in-Sum.e c.args.vars.now c.in-Sum.is c.requires.exact in
-    let child = sym c.get-in-Sum.ensures in
-    (search (rules, the_lemmas),
-        (p.0, (subst (λ (e : Term). counted s e ≡ true) child p.1,
-        (subst (λ (e : Term). fits_in s e c.args.bindings.now ≡ true) child f,
-        subst (λ (e : Term). exact_below s (extent c.in-Sum.n s) e c.args.vars.now ≡ true) child q))))
+    let child = sym c.get-in-Sum.ensures in (
+      search (rules, the_lemmas),
+      (
+        p.0,
+        (
+          subst (λ (e : Term). counted s e ≡ true) child p.1,
+          (
+            subst (λ (e : Term). fits_in s e c.args.bindings.now ≡ true) child f,
+            subst (λ (e : Term). exact_below s (extent c.in-Sum.n s) e c.args.vars.now ≡ true) child q,
+          ),
+        ),
+      ),
+    )
 
 pub evaluate-evaluate-requires-in-TruncL : goal.evaluate-evaluate-requires-in-TruncL
 evaluate-evaluate-requires-in-TruncL t c =
@@ -66,10 +82,13 @@ evaluate-evaluate-requires-in-TruncL t c =
     let f = fits-TruncL s (extents_of (scope c.args.bindings.now)) c.args.term.now c.in-TruncL.n c.in-TruncL.e c.in-TruncL.is c.requires.fits in
     let p = counted-TruncL s c.args.term.now c.in-TruncL.n c.in-TruncL.e c.in-TruncL.is c.requires.counted in
     let q = exact-TruncL s c.args.term.now c.in-TruncL.n c.in-TruncL.e c.args.vars.now c.in-TruncL.is c.requires.exact in
-    let child = sym c.get-in-TruncL.ensures in
-    (search (rules, the_lemmas),
-        (subst (λ (e : Term). counted s e ≡ true) child p.1,
-        (subst (λ (e : Term). fits_in s e c.args.bindings.now ≡ true) child f, subst (λ (e : Term). exact s e c.args.vars.now ≡ true) child q)))
+    let child = sym c.get-in-TruncL.ensures in (
+      search (rules, the_lemmas),
+      (
+        subst (λ (e : Term). counted s e ≡ true) child p.1,
+        (subst (λ (e : Term). fits_in s e c.args.bindings.now ≡ true) child f, subst (λ (e : Term). exact s e c.args.vars.now ≡ true) child q),
+      ),
+    )
 
 pub evaluate-evaluate-requires-in-TruncR : goal.evaluate-evaluate-requires-in-TruncR
 evaluate-evaluate-requires-in-TruncR t c =
@@ -77,10 +96,13 @@ evaluate-evaluate-requires-in-TruncR t c =
     let f = fits-TruncR s (extents_of (scope c.args.bindings.now)) c.args.term.now c.in-TruncR.n c.in-TruncR.e c.in-TruncR.is c.requires.fits in
     let p = counted-TruncR s c.args.term.now c.in-TruncR.n c.in-TruncR.e c.in-TruncR.is c.requires.counted in
     let q = exact-TruncR s c.args.term.now c.in-TruncR.n c.in-TruncR.e c.args.vars.now c.in-TruncR.is c.requires.exact in
-    let child = sym c.get-in-TruncR.ensures in
-    (search (rules, the_lemmas),
-        (subst (λ (e : Term). counted s e ≡ true) child p.1,
-        (subst (λ (e : Term). fits_in s e c.args.bindings.now ≡ true) child f, subst (λ (e : Term). exact s e c.args.vars.now ≡ true) child q)))
+    let child = sym c.get-in-TruncR.ensures in (
+      search (rules, the_lemmas),
+      (
+        subst (λ (e : Term). counted s e ≡ true) child p.1,
+        (subst (λ (e : Term). fits_in s e c.args.bindings.now ≡ true) child f, subst (λ (e : Term). exact s e c.args.vars.now ≡ true) child q),
+      ),
+    )
 
 pub evaluate-evaluate-requires-in-PadL : goal.evaluate-evaluate-requires-in-PadL
 evaluate-evaluate-requires-in-PadL t c =
@@ -88,10 +110,13 @@ evaluate-evaluate-requires-in-PadL t c =
     let f = fits-PadL s (extents_of (scope c.args.bindings.now)) c.args.term.now c.in-PadL.n c.in-PadL.e c.in-PadL.is c.requires.fits in
     let p = counted-PadL s c.args.term.now c.in-PadL.n c.in-PadL.e c.in-PadL.is c.requires.counted in
     let q = exact-PadL s c.args.term.now c.in-PadL.n c.in-PadL.e c.args.vars.now c.in-PadL.is c.requires.exact in
-    let child = sym c.get-in-PadL.ensures in
-    (search (rules, the_lemmas),
-        (subst (λ (e : Term). counted s e ≡ true) child p.1,
-        (subst (λ (e : Term). fits_in s e c.args.bindings.now ≡ true) child f.0, subst (λ (e : Term). exact s e c.args.vars.now ≡ true) child q)))
+    let child = sym c.get-in-PadL.ensures in (
+      search (rules, the_lemmas),
+      (
+        subst (λ (e : Term). counted s e ≡ true) child p.1,
+        (subst (λ (e : Term). fits_in s e c.args.bindings.now ≡ true) child f.0, subst (λ (e : Term). exact s e c.args.vars.now ≡ true) child q),
+      ),
+    )
 
 pub evaluate-evaluate-requires-in-PadR : goal.evaluate-evaluate-requires-in-PadR
 evaluate-evaluate-requires-in-PadR t c =
@@ -99,10 +124,13 @@ evaluate-evaluate-requires-in-PadR t c =
     let f = fits-PadR s (extents_of (scope c.args.bindings.now)) c.args.term.now c.in-PadR.n c.in-PadR.e c.in-PadR.is c.requires.fits in
     let p = counted-PadR s c.args.term.now c.in-PadR.n c.in-PadR.e c.in-PadR.is c.requires.counted in
     let q = exact-PadR s c.args.term.now c.in-PadR.n c.in-PadR.e c.args.vars.now c.in-PadR.is c.requires.exact in
-    let child = sym c.get-in-PadR.ensures in
-    (search (rules, the_lemmas),
-        (subst (λ (e : Term). counted s e ≡ true) child p.1,
-        (subst (λ (e : Term). fits_in s e c.args.bindings.now ≡ true) child f.0, subst (λ (e : Term). exact s e c.args.vars.now ≡ true) child q)))
+    let child = sym c.get-in-PadR.ensures in (
+      search (rules, the_lemmas),
+      (
+        subst (λ (e : Term). counted s e ≡ true) child p.1,
+        (subst (λ (e : Term). fits_in s e c.args.bindings.now ≡ true) child f.0, subst (λ (e : Term). exact s e c.args.vars.now ≡ true) child q),
+      ),
+    )
 
 pub evaluate-padded_before-requires-clause-counted : goal.evaluate-padded_before-requires-clause-counted
 evaluate-padded_before-requires-clause-counted t c =
@@ -136,10 +164,13 @@ evaluate-under-requires t c =
     let found = c.in_ok-found-in-Let.ensures.extents ∙ ap (λ e. extents_in s e c.args.bindings.now) c.get-in-Let.ensures in
     let kept : c.evaluate.new.bindings ≡ c.args.bindings.now = c.in_ok-value-in-Let.ensures.bindings ∙ c.in_ok-found-in-Let.ensures.bindings in
     let then = (λ i. (denoted s (c.get-in-Let-3.ensures i)).fits (found i ∷ extents_of (scope (kept i)))) ∙ f.1 in
-    let later = subst (λ (r : List ℕ). exact s c.in-Let.b r ≡ true) (sym same) q.1 in
-    (search (rules, the_lemmas),
-        (subst (λ (e : Term). counted s e ≡ true) (sym c.get-in-Let-3.ensures) p.1,
-        (then, subst (λ (e : Term). exact s e c.evaluate.new.vars ≡ true) (sym c.get-in-Let-3.ensures) later)))
+    let later = subst (λ (r : List ℕ). exact s c.in-Let.b r ≡ true) (sym same) q.1 in (
+      search (rules, the_lemmas),
+      (
+        subst (λ (e : Term). counted s e ≡ true) (sym c.get-in-Let-3.ensures) p.1,
+        (then, subst (λ (e : Term). exact s e c.evaluate.new.vars ≡ true) (sym c.get-in-Let-3.ensures) later),
+      ),
+    )
 
 pub evaluate-with_second-requires : goal.evaluate-with_second-requires
 evaluate-with_second-requires t c =
@@ -150,10 +181,13 @@ evaluate-with_second-requires t c =
     let same : c.evaluate-in-Add.new.vars ≡ c.args.vars.now = c.in_ok-first-in-Add.ensures.vars in
     let kept : c.evaluate-in-Add.new.bindings ≡ c.args.bindings.now = c.in_ok-first-in-Add.ensures.bindings in
     let then = (λ i. fits_in s (c.get-in-Add-2.ensures i) (kept i)) ∙ f.1 in
-    let later = subst (λ (r : List ℕ). exact s c.in-Add.b r ≡ true) (sym same) q.1 in
-    (search (rules, the_lemmas),
-        (subst (λ (e : Term). counted s e ≡ true) (sym c.get-in-Add-2.ensures) p.1,
-        (then, subst (λ (e : Term). exact s e c.evaluate-in-Add.new.vars ≡ true) (sym c.get-in-Add-2.ensures) later)))
+    let later = subst (λ (r : List ℕ). exact s c.in-Add.b r ≡ true) (sym same) q.1 in (
+      search (rules, the_lemmas),
+      (
+        subst (λ (e : Term). counted s e ≡ true) (sym c.get-in-Add-2.ensures) p.1,
+        (then, subst (λ (e : Term). exact s e c.evaluate-in-Add.new.vars ≡ true) (sym c.get-in-Add-2.ensures) later),
+      ),
+    )
 
 pub evaluate-with_second-requires-in-Sub : goal.evaluate-with_second-requires-in-Sub
 evaluate-with_second-requires-in-Sub t c =
@@ -164,10 +198,13 @@ evaluate-with_second-requires-in-Sub t c =
     let same : c.evaluate-in-Sub.new.vars ≡ c.args.vars.now = c.in_ok-first-in-Sub.ensures.vars in
     let kept : c.evaluate-in-Sub.new.bindings ≡ c.args.bindings.now = c.in_ok-first-in-Sub.ensures.bindings in
     let then = (λ i. fits_in s (c.get-in-Sub-2.ensures i) (kept i)) ∙ f.1 in
-    let later = subst (λ (r : List ℕ). exact s c.in-Sub.b r ≡ true) (sym same) q.1 in
-    (search (rules, the_lemmas),
-        (subst (λ (e : Term). counted s e ≡ true) (sym c.get-in-Sub-2.ensures) p.1,
-        (then, subst (λ (e : Term). exact s e c.evaluate-in-Sub.new.vars ≡ true) (sym c.get-in-Sub-2.ensures) later)))
+    let later = subst (λ (r : List ℕ). exact s c.in-Sub.b r ≡ true) (sym same) q.1 in (
+      search (rules, the_lemmas),
+      (
+        subst (λ (e : Term). counted s e ≡ true) (sym c.get-in-Sub-2.ensures) p.1,
+        (then, subst (λ (e : Term). exact s e c.evaluate-in-Sub.new.vars ≡ true) (sym c.get-in-Sub-2.ensures) later),
+      ),
+    )
 
 pub evaluate-with_second-requires-in-Mul : goal.evaluate-with_second-requires-in-Mul
 evaluate-with_second-requires-in-Mul t c =
@@ -178,10 +215,13 @@ evaluate-with_second-requires-in-Mul t c =
     let same : c.evaluate-in-Mul.new.vars ≡ c.args.vars.now = c.in_ok-first-in-Mul.ensures.vars in
     let kept : c.evaluate-in-Mul.new.bindings ≡ c.args.bindings.now = c.in_ok-first-in-Mul.ensures.bindings in
     let then = (λ i. fits_in s (c.get-in-Mul-2.ensures i) (kept i)) ∙ f.1 in
-    let later = subst (λ (r : List ℕ). exact s c.in-Mul.b r ≡ true) (sym same) q.1 in
-    (search (rules, the_lemmas),
-        (subst (λ (e : Term). counted s e ≡ true) (sym c.get-in-Mul-2.ensures) p.1,
-        (then, subst (λ (e : Term). exact s e c.evaluate-in-Mul.new.vars ≡ true) (sym c.get-in-Mul-2.ensures) later)))
+    let later = subst (λ (r : List ℕ). exact s c.in-Mul.b r ≡ true) (sym same) q.1 in (
+      search (rules, the_lemmas),
+      (
+        subst (λ (e : Term). counted s e ≡ true) (sym c.get-in-Mul-2.ensures) p.1,
+        (then, subst (λ (e : Term). exact s e c.evaluate-in-Mul.new.vars ≡ true) (sym c.get-in-Mul-2.ensures) later),
+      ),
+    )
 
 pub evaluate-followed_by-requires : goal.evaluate-followed_by-requires
 evaluate-followed_by-requires t c =
@@ -192,10 +232,13 @@ evaluate-followed_by-requires t c =
     let same : c.evaluate-in-Concat.new.vars ≡ c.args.vars.now = c.in_ok-first-in-Concat.ensures.vars in
     let kept : c.evaluate-in-Concat.new.bindings ≡ c.args.bindings.now = c.in_ok-first-in-Concat.ensures.bindings in
     let then = (λ i. fits_in s (c.get-in-Concat-2.ensures i) (kept i)) ∙ f.0.1 in
-    let later = subst (λ (r : List ℕ). exact s c.in-Concat.b r ≡ true) (sym same) q.1 in
-    (search (rules, the_lemmas),
-        (subst (λ (e : Term). counted s e ≡ true) (sym c.get-in-Concat-2.ensures) p.1,
-        (then, subst (λ (e : Term). exact s e c.evaluate-in-Concat.new.vars ≡ true) (sym c.get-in-Concat-2.ensures) later)))
+    let later = subst (λ (r : List ℕ). exact s c.in-Concat.b r ≡ true) (sym same) q.1 in (
+      search (rules, the_lemmas),
+      (
+        subst (λ (e : Term). counted s e ≡ true) (sym c.get-in-Concat-2.ensures) p.1,
+        (then, subst (λ (e : Term). exact s e c.evaluate-in-Concat.new.vars ≡ true) (sym c.get-in-Concat-2.ensures) later),
+      ),
+    )
 
 pub evaluate-chunked-requires-clause-counted : goal.evaluate-chunked-requires-clause-counted
 evaluate-chunked-requires-clause-counted t c =
@@ -257,10 +300,17 @@ rows-evaluate-requires t c =
     let i = c.loop-i.i in
     let n = extent c.args.count.now s in
     let vars = c.in_ok-enter.ensures ∙ ap (λ v. i ∷ v) c.loop-i.invariant.vars in
-    let below : i < n = omega (arith, c.extent-turns.ensures) in
-    (search (rules, the_lemmas),
-        (c.requires.counted, (ap (fits_in s body) c.loop-i.invariant.bindings
-        ∙ c.requires.fits, subst (λ (v : List ℕ). exact s body v ≡ true) (sym vars) (below-at n (λ j. exact s body (j ∷ r)) i c.requires.exact below))))
+    let below : i < n = omega (arith, c.extent-turns.ensures) in (
+      search (rules, the_lemmas),
+      (
+        c.requires.counted,
+        (
+          ap (fits_in s body) c.loop-i.invariant.bindings
+              ∙ c.requires.fits,
+          subst (λ (v : List ℕ). exact s body v ≡ true) (sym vars) (below-at n (λ j. exact s body (j ∷ r)) i c.requires.exact below),
+        ),
+      ),
+    )
 
 pub summed-evaluate-requires : goal.summed-evaluate-requires
 summed-evaluate-requires t c =
@@ -269,11 +319,18 @@ summed-evaluate-requires t c =
     let r = c.args.vars.now in
     let k = c.loop-left.left - 1 in
     let vars = c.in_ok-enter.ensures ∙ ap (λ v. k ∷ v) c.loop-left.invariant.vars in
-    let below : k < c.args.count = omega (arith, c.loop-left.invariant.within) in
-    (search (rules, the_lemmas),
-        (c.requires.counted, (ap (fits_in s body) c.loop-left.invariant.bindings
-        ∙ c.requires.fits, subst (λ (v : List ℕ). exact s body v ≡ true) (sym vars)
-        (below-at c.args.count (λ j. exact s body (j ∷ r)) k c.requires.exact below))))
+    let below : k < c.args.count = omega (arith, c.loop-left.invariant.within) in (
+      search (rules, the_lemmas),
+      (
+        c.requires.counted,
+        (
+          ap (fits_in s body) c.loop-left.invariant.bindings
+              ∙ c.requires.fits,
+          subst (λ (v : List ℕ). exact s body v ≡ true) (sym vars)
+              (below-at c.args.count (λ j. exact s body (j ∷ r)) k c.requires.exact below),
+        ),
+      ),
+    )
 
 pub evaluate-row-requires : goal.evaluate-row-requires
 evaluate-row-requires t c =
@@ -281,10 +338,13 @@ evaluate-row-requires t c =
     let f = fits-Index s (extents_of (scope c.args.bindings.now)) c.args.term.now c.in-Index.e c.in-Index.x c.in-Index.is c.requires.fits in
     let p = counted-Index s c.args.term.now c.in-Index.e c.in-Index.x c.in-Index.is c.requires.counted in
     let q = exact-Index s c.args.term.now c.in-Index.e c.in-Index.x c.args.vars.now c.in-Index.is c.requires.exact in
-    let child = sym c.get.ensures in
-    (search (rules, the_lemmas),
-        (subst (λ (e : Term). counted s e ≡ true) child p,
-        (subst (λ (e : Term). fits_in s e c.args.bindings.now ≡ true) child f, (subst (λ (e : Term). exact s e c.args.vars.now ≡ true) child q.0, q.1))))
+    let child = sym c.get.ensures in (
+      search (rules, the_lemmas),
+      (
+        subst (λ (e : Term). counted s e ≡ true) child p,
+        (subst (λ (e : Term). fits_in s e c.args.bindings.now ≡ true) child f, (subst (λ (e : Term). exact s e c.args.vars.now ≡ true) child q.0, q.1)),
+      ),
+    )
 
 pub evaluate-guarded-requires : goal.evaluate-guarded-requires
 evaluate-guarded-requires t c =
@@ -292,19 +352,32 @@ evaluate-guarded-requires t c =
     let f = fits-Guard s (extents_of (scope c.args.bindings.now)) c.args.term.now c.in-Guard.c c.in-Guard.e c.in-Guard.is c.requires.fits in
     let p = counted-Guard s c.args.term.now c.in-Guard.c c.in-Guard.e c.in-Guard.is c.requires.counted in
     let q = exact-Guard s c.args.term.now c.in-Guard.c c.in-Guard.e c.args.vars.now c.in-Guard.is c.requires.exact in
-    let child = sym c.get-in-Guard.ensures in
-    (search (rules, the_lemmas),
-        (q.0, (subst (λ (e : Term). counted s e ≡ true) child p,
-        (subst (λ (e : Term). fits_in s e c.args.bindings.now ≡ true) child f, subst (λ (e : Term). exact s e c.args.vars.now ≡ true) child q.1))))
+    let child = sym c.get-in-Guard.ensures in (
+      search (rules, the_lemmas),
+      (
+        q.0,
+        (
+          subst (λ (e : Term). counted s e ≡ true) child p,
+          (subst (λ (e : Term). fits_in s e c.args.bindings.now ≡ true) child f, subst (λ (e : Term). exact s e c.args.vars.now ≡ true) child q.1),
+        ),
+      ),
+    )
 
 pub sum-summed-requires : goal.sum-summed-requires
 sum-summed-requires t c =
     let s = c.args.sizes.now in
     let body = c.args.body.now in
-    let r = c.args.vars.now in
-    (search (rules, the_lemmas),
-        (c.requires.counted, (ap (fits_in s body) c.in_ok-start.ensures.bindings
-        ∙ c.requires.fits, subst (λ (n : ℕ). exact_below s n body r ≡ true) (sym c.extent-turns.ensures) c.requires.exact)))
+    let r = c.args.vars.now in (
+      search (rules, the_lemmas),
+      (
+        c.requires.counted,
+        (
+          ap (fits_in s body) c.in_ok-start.ensures.bindings
+              ∙ c.requires.fits,
+          subst (λ (n : ℕ). exact_below s n body r ≡ true) (sym c.extent-turns.ensures) c.requires.exact,
+        ),
+      ),
+    )
 
 pub evaluate-shortened_first-requires : goal.evaluate-shortened_first-requires
 evaluate-shortened_first-requires t c = (counted-TruncL c.args.sizes.now c.args.term.now c.in-TruncL.n c.in-TruncL.e c.in-TruncL.is c.requires.counted).0
@@ -324,11 +397,17 @@ evaluate-evaluate-requires t c =
     let f = fits-Let s (extents_of (scope c.args.bindings.now)) c.args.term.now c.in-Let.a c.in-Let.b c.in-Let.is c.requires.fits in
     let p = counted-Let s c.args.term.now c.in-Let.a c.in-Let.b c.in-Let.is c.requires.counted in
     let q = exact-Let s c.args.term.now c.in-Let.a c.in-Let.b c.args.vars.now c.in-Let.is c.requires.exact in
-    let child = sym c.get-in-Let-2.ensures in
-    (search (rules, the_lemmas),
-        (subst (λ (e : Term). counted s e ≡ true) child p.0,
-        ((λ i. fits_in s (c.get-in-Let-2.ensures i) (c.in_ok-found-in-Let.ensures.bindings i))
-        ∙ f.0, subst (λ (e : Term). exact s e c.args.vars.now ≡ true) child q.0)))
+    let child = sym c.get-in-Let-2.ensures in (
+      search (rules, the_lemmas),
+      (
+        subst (λ (e : Term). counted s e ≡ true) child p.0,
+        (
+          (λ i. fits_in s (c.get-in-Let-2.ensures i) (c.in_ok-found-in-Let.ensures.bindings i))
+              ∙ f.0,
+          subst (λ (e : Term). exact s e c.args.vars.now ≡ true) child q.0,
+        ),
+      ),
+    )
 
 pub evaluate-evaluate-requires-in-Add : goal.evaluate-evaluate-requires-in-Add
 evaluate-evaluate-requires-in-Add t c =
@@ -336,10 +415,13 @@ evaluate-evaluate-requires-in-Add t c =
     let f = fits-Add s (extents_of (scope c.args.bindings.now)) c.args.term.now c.in-Add.a c.in-Add.b c.in-Add.is c.requires.fits in
     let p = counted-Add s c.args.term.now c.in-Add.a c.in-Add.b c.in-Add.is c.requires.counted in
     let q = exact-Add s c.args.term.now c.in-Add.a c.in-Add.b c.args.vars.now c.in-Add.is c.requires.exact in
-    let child = sym c.get-in-Add.ensures in
-    (search (rules, the_lemmas),
-        (subst (λ (e : Term). counted s e ≡ true) child p.0,
-        (subst (λ (e : Term). fits_in s e c.args.bindings.now ≡ true) child f.0, subst (λ (e : Term). exact s e c.args.vars.now ≡ true) child q.0)))
+    let child = sym c.get-in-Add.ensures in (
+      search (rules, the_lemmas),
+      (
+        subst (λ (e : Term). counted s e ≡ true) child p.0,
+        (subst (λ (e : Term). fits_in s e c.args.bindings.now ≡ true) child f.0, subst (λ (e : Term). exact s e c.args.vars.now ≡ true) child q.0),
+      ),
+    )
 
 pub evaluate-evaluate-requires-in-Sub : goal.evaluate-evaluate-requires-in-Sub
 evaluate-evaluate-requires-in-Sub t c =
@@ -347,10 +429,13 @@ evaluate-evaluate-requires-in-Sub t c =
     let f = fits-Sub s (extents_of (scope c.args.bindings.now)) c.args.term.now c.in-Sub.a c.in-Sub.b c.in-Sub.is c.requires.fits in
     let p = counted-Sub s c.args.term.now c.in-Sub.a c.in-Sub.b c.in-Sub.is c.requires.counted in
     let q = exact-Sub s c.args.term.now c.in-Sub.a c.in-Sub.b c.args.vars.now c.in-Sub.is c.requires.exact in
-    let child = sym c.get-in-Sub.ensures in
-    (search (rules, the_lemmas),
-        (subst (λ (e : Term). counted s e ≡ true) child p.0,
-        (subst (λ (e : Term). fits_in s e c.args.bindings.now ≡ true) child f.0, subst (λ (e : Term). exact s e c.args.vars.now ≡ true) child q.0)))
+    let child = sym c.get-in-Sub.ensures in (
+      search (rules, the_lemmas),
+      (
+        subst (λ (e : Term). counted s e ≡ true) child p.0,
+        (subst (λ (e : Term). fits_in s e c.args.bindings.now ≡ true) child f.0, subst (λ (e : Term). exact s e c.args.vars.now ≡ true) child q.0),
+      ),
+    )
 
 pub evaluate-evaluate-requires-in-Mul : goal.evaluate-evaluate-requires-in-Mul
 evaluate-evaluate-requires-in-Mul t c =
@@ -358,10 +443,13 @@ evaluate-evaluate-requires-in-Mul t c =
     let f = fits-Mul s (extents_of (scope c.args.bindings.now)) c.args.term.now c.in-Mul.a c.in-Mul.b c.in-Mul.is c.requires.fits in
     let p = counted-Mul s c.args.term.now c.in-Mul.a c.in-Mul.b c.in-Mul.is c.requires.counted in
     let q = exact-Mul s c.args.term.now c.in-Mul.a c.in-Mul.b c.args.vars.now c.in-Mul.is c.requires.exact in
-    let child = sym c.get-in-Mul.ensures in
-    (search (rules, the_lemmas),
-        (subst (λ (e : Term). counted s e ≡ true) child p.0,
-        (subst (λ (e : Term). fits_in s e c.args.bindings.now ≡ true) child f.0, subst (λ (e : Term). exact s e c.args.vars.now ≡ true) child q.0)))
+    let child = sym c.get-in-Mul.ensures in (
+      search (rules, the_lemmas),
+      (
+        subst (λ (e : Term). counted s e ≡ true) child p.0,
+        (subst (λ (e : Term). fits_in s e c.args.bindings.now ≡ true) child f.0, subst (λ (e : Term). exact s e c.args.vars.now ≡ true) child q.0),
+      ),
+    )
 
 pub evaluate-evaluate-requires-in-Concat : goal.evaluate-evaluate-requires-in-Concat
 evaluate-evaluate-requires-in-Concat t c =
@@ -369,10 +457,13 @@ evaluate-evaluate-requires-in-Concat t c =
     let f = fits-Concat s (extents_of (scope c.args.bindings.now)) c.args.term.now c.in-Concat.a c.in-Concat.b c.in-Concat.is c.requires.fits in
     let p = counted-Concat s c.args.term.now c.in-Concat.a c.in-Concat.b c.in-Concat.is c.requires.counted in
     let q = exact-Concat s c.args.term.now c.in-Concat.a c.in-Concat.b c.args.vars.now c.in-Concat.is c.requires.exact in
-    let child = sym c.get-in-Concat.ensures in
-    (search (rules, the_lemmas),
-        (subst (λ (e : Term). counted s e ≡ true) child p.0,
-        (subst (λ (e : Term). fits_in s e c.args.bindings.now ≡ true) child f.0.0, subst (λ (e : Term). exact s e c.args.vars.now ≡ true) child q.0)))
+    let child = sym c.get-in-Concat.ensures in (
+      search (rules, the_lemmas),
+      (
+        subst (λ (e : Term). counted s e ≡ true) child p.0,
+        (subst (λ (e : Term). fits_in s e c.args.bindings.now ≡ true) child f.0.0, subst (λ (e : Term). exact s e c.args.vars.now ≡ true) child q.0),
+      ),
+    )
 
 pub evaluate-returns-in-WordOf-clause-value : goal.evaluate-returns-in-WordOf-clause-value
 evaluate-returns-in-WordOf-clause-value t c =
@@ -394,10 +485,13 @@ evaluate-evaluate-requires-in-Flatten t c =
     let f = fits-Flatten s (extents_of (scope c.args.bindings.now)) c.args.term.now c.in-Flatten.e c.in-Flatten.is c.requires.fits in
     let p = counted-Flatten s c.args.term.now c.in-Flatten.e c.in-Flatten.is c.requires.counted in
     let q = exact-Flatten s c.args.term.now c.in-Flatten.e c.args.vars.now c.in-Flatten.is c.requires.exact in
-    let child = sym c.get-in-Flatten.ensures in
-    (search (rules, the_lemmas),
-        (subst (λ (e : Term). counted s e ≡ true) child p,
-        (subst (λ (e : Term). fits_in s e c.args.bindings.now ≡ true) child f.0, subst (λ (e : Term). exact s e c.args.vars.now ≡ true) child q)))
+    let child = sym c.get-in-Flatten.ensures in (
+      search (rules, the_lemmas),
+      (
+        subst (λ (e : Term). counted s e ≡ true) child p,
+        (subst (λ (e : Term). fits_in s e c.args.bindings.now ≡ true) child f.0, subst (λ (e : Term). exact s e c.args.vars.now ≡ true) child q),
+      ),
+    )
 
 pub evaluate-returns-in-Flatten-clause-value : goal.evaluate-returns-in-Flatten-clause-value
 evaluate-returns-in-Flatten-clause-value t c =
@@ -405,23 +499,23 @@ evaluate-returns-in-Flatten-clause-value t c =
     let r = c.args.vars.now in
     let bs = c.args.bindings.now in
     let child : IfOk c.evaluate-in-Flatten.result (λ v. meant v ≡ (tensor_in s c.in-Flatten.e r bs)) =
-        subst (λ (e : Term). IfOk c.evaluate-in-Flatten.result (λ v. meant v ≡ tensor_in s e r bs)) c.get-in-Flatten.ensures c.evaluate-in-Flatten.ensures.value
-        in
+    subst (λ (e : Term). IfOk c.evaluate-in-Flatten.result (λ v. meant v ≡ tensor_in s e r bs)) c.get-in-Flatten.ensures c.evaluate-in-Flatten.ensures.value
+    in
     let made = of-meant (λ bs t. from_rows (joined (rows_of t))) c.evaluate-in-Flatten.new.bindings bs c.evaluate-in-Flatten.result c.flattened.result
-        (tensor_in s c.in-Flatten.e r bs) c.flattened.ensures c.evaluate-in-Flatten.ensures.bindings child in
+    (tensor_in s c.in-Flatten.e r bs) c.flattened.ensures c.evaluate-in-Flatten.ensures.bindings child in
     subst (λ (y : Tensor). IfOk c.flattened.result (λ v. meant v ≡ y)) (sym (tensor-Flatten s r (scope bs) c.args.term.now c.in-Flatten.e c.in-Flatten.is)) made
 
 pub evaluate-returns-in-Flatten-clause-vars : goal.evaluate-returns-in-Flatten-clause-vars
 evaluate-returns-in-Flatten-clause-vars t c =
     let s = c.args.sizes.now in
     of-kept (λ (d : Value). λ (v : Value). meant v ≡ from_rows (joined (rows_of (meant d)))) (c.evaluate-in-Flatten.new.vars ≡ c.args.vars.now)
-        c.evaluate-in-Flatten.result c.flattened.result c.flattened.ensures c.evaluate-in-Flatten.ensures.vars
+    c.evaluate-in-Flatten.result c.flattened.result c.flattened.ensures c.evaluate-in-Flatten.ensures.vars
 
 pub evaluate-returns-in-Flatten-clause-bindings : goal.evaluate-returns-in-Flatten-clause-bindings
 evaluate-returns-in-Flatten-clause-bindings t c =
     let s = c.args.sizes.now in
     of-kept (λ (d : Value). λ (v : Value). meant v ≡ from_rows (joined (rows_of (meant d)))) (c.evaluate-in-Flatten.new.bindings ≡ c.args.bindings.now)
-        c.evaluate-in-Flatten.result c.flattened.result c.flattened.ensures c.evaluate-in-Flatten.ensures.bindings
+    c.evaluate-in-Flatten.result c.flattened.result c.flattened.ensures c.evaluate-in-Flatten.ensures.bindings
 
 pub evaluate-returns-in-Split-clause-value : goal.evaluate-returns-in-Split-clause-value
 evaluate-returns-in-Split-clause-value t c =
@@ -429,41 +523,41 @@ evaluate-returns-in-Split-clause-value t c =
     let r = c.args.vars.now in
     let bs = c.args.bindings.now in
     let child : IfOk c.evaluate-in-Split.result (λ v. meant v ≡ (tensor_in s c.in-Split.e r bs)) =
-        subst (λ (e : Term). IfOk c.evaluate-in-Split.result (λ v. meant v ≡ tensor_in s e r bs)) c.get-in-Split.ensures c.evaluate-in-Split.ensures.value in
+    subst (λ (e : Term). IfOk c.evaluate-in-Split.result (λ v. meant v ≡ tensor_in s e r bs)) c.get-in-Split.ensures c.evaluate-in-Split.ensures.value in
     let made = of-meant (λ bs t. from_rows
-        (chunks ((head_of (extents_in s c.get-in-Split-2.result.now bs) + c.in-Split.k - 1) / c.in-Split.k) c.in-Split.k
-        (zeros (tail_of (extents_in s c.get-in-Split-2.result.now bs))) (rows_of t))) c.evaluate-in-Split.new.bindings bs c.evaluate-in-Split.result
-        c.chunked.result (tensor_in s c.in-Split.e r bs) c.chunked.ensures.value c.evaluate-in-Split.ensures.bindings child in
+    (chunks ((head_of (extents_in s c.get-in-Split-2.result.now bs) + c.in-Split.k - 1) / c.in-Split.k) c.in-Split.k
+    (zeros (tail_of (extents_in s c.get-in-Split-2.result.now bs))) (rows_of t))) c.evaluate-in-Split.new.bindings bs c.evaluate-in-Split.result
+    c.chunked.result (tensor_in s c.in-Split.e r bs) c.chunked.ensures.value c.evaluate-in-Split.ensures.bindings child in
     subst (λ (y : Tensor). IfOk c.chunked.result (λ v. meant v ≡ y))
-        (ap (λ e. from_rows (chunks ((head_of (extents_in s e bs) + c.in-Split.k - 1) / c.in-Split.k) c.in-Split.k (zeros (tail_of (extents_in s e bs)))
-        (rows_of (tensor_in s c.in-Split.e r bs)))) c.get-in-Split-2.ensures
-        ∙ sym (tensor-Split s r (scope bs) c.args.term.now c.in-Split.k c.in-Split.e c.in-Split.is)) made
+    (ap (λ e. from_rows (chunks ((head_of (extents_in s e bs) + c.in-Split.k - 1) / c.in-Split.k) c.in-Split.k (zeros (tail_of (extents_in s e bs)))
+    (rows_of (tensor_in s c.in-Split.e r bs)))) c.get-in-Split-2.ensures
+    ∙ sym (tensor-Split s r (scope bs) c.args.term.now c.in-Split.k c.in-Split.e c.in-Split.is)) made
 
 pub evaluate-returns-in-Split-clause-vars : goal.evaluate-returns-in-Split-clause-vars
 evaluate-returns-in-Split-clause-vars t c =
     let s = c.args.sizes.now in
     of-kept (λ (d : Value). λ (v : Value). meant v ≡ from_rows
-        (chunks ((head_of (extents_in s c.get-in-Split-2.result.now c.evaluate-in-Split.new.bindings) + c.in-Split.k - 1) / c.in-Split.k) c.in-Split.k
-        (zeros (tail_of (extents_in s c.get-in-Split-2.result.now c.evaluate-in-Split.new.bindings))) (rows_of (meant d))))
-        (c.evaluate-in-Split.new.vars ≡ c.args.vars.now) c.evaluate-in-Split.result c.chunked.result c.chunked.ensures.value c.evaluate-in-Split.ensures.vars
+    (chunks ((head_of (extents_in s c.get-in-Split-2.result.now c.evaluate-in-Split.new.bindings) + c.in-Split.k - 1) / c.in-Split.k) c.in-Split.k
+    (zeros (tail_of (extents_in s c.get-in-Split-2.result.now c.evaluate-in-Split.new.bindings))) (rows_of (meant d))))
+    (c.evaluate-in-Split.new.vars ≡ c.args.vars.now) c.evaluate-in-Split.result c.chunked.result c.chunked.ensures.value c.evaluate-in-Split.ensures.vars
 
 pub evaluate-returns-in-Split-clause-bindings : goal.evaluate-returns-in-Split-clause-bindings
 evaluate-returns-in-Split-clause-bindings t c =
     let s = c.args.sizes.now in
     both-kept c.chunked.result c.chunked.new.bindings c.evaluate-in-Split.new.bindings c.args.bindings.now c.chunked.ensures.bindings
-        (of-kept (λ (d : Value). λ (v : Value). meant v ≡ from_rows
-        (chunks ((head_of (extents_in s c.get-in-Split-2.result.now c.evaluate-in-Split.new.bindings) + c.in-Split.k - 1) / c.in-Split.k) c.in-Split.k
-        (zeros (tail_of (extents_in s c.get-in-Split-2.result.now c.evaluate-in-Split.new.bindings))) (rows_of (meant d))))
-        (c.evaluate-in-Split.new.bindings ≡ c.args.bindings.now) c.evaluate-in-Split.result c.chunked.result c.chunked.ensures.value
-        c.evaluate-in-Split.ensures.bindings)
+    (of-kept (λ (d : Value). λ (v : Value). meant v ≡ from_rows
+    (chunks ((head_of (extents_in s c.get-in-Split-2.result.now c.evaluate-in-Split.new.bindings) + c.in-Split.k - 1) / c.in-Split.k) c.in-Split.k
+    (zeros (tail_of (extents_in s c.get-in-Split-2.result.now c.evaluate-in-Split.new.bindings))) (rows_of (meant d))))
+    (c.evaluate-in-Split.new.bindings ≡ c.args.bindings.now) c.evaluate-in-Split.result c.chunked.result c.chunked.ensures.value
+    c.evaluate-in-Split.ensures.bindings)
 
 pub evaluate-chunked-requires-clause-fits : goal.evaluate-chunked-requires-clause-fits
 evaluate-chunked-requires-clause-fits t c =
     let s = c.args.sizes.now in
     IfOk-weaker c.evaluate-in-Split.result _ _
-        (λ v kept. (λ i. fits_in s (c.get-in-Split-2.ensures i) (kept i))
-        ∙ fits-Split s (extents_of (scope c.args.bindings.now)) c.args.term.now c.in-Split.k c.in-Split.e c.in-Split.is c.requires.fits)
-        c.evaluate-in-Split.ensures.bindings
+    (λ v kept. (λ i. fits_in s (c.get-in-Split-2.ensures i) (kept i))
+    ∙ fits-Split s (extents_of (scope c.args.bindings.now)) c.args.term.now c.in-Split.k c.in-Split.e c.in-Split.is c.requires.fits)
+    c.evaluate-in-Split.ensures.bindings
 
 pub evaluate-returns-in-Transpose-clause-value : goal.evaluate-returns-in-Transpose-clause-value
 evaluate-returns-in-Transpose-clause-value t c =
@@ -471,44 +565,44 @@ evaluate-returns-in-Transpose-clause-value t c =
     let r = c.args.vars.now in
     let bs = c.args.bindings.now in
     let child : IfOk c.evaluate-in-Transpose.result (λ v. meant v ≡ (tensor_in s c.in-Transpose.e r bs)) =
-        subst (λ (e : Term). IfOk c.evaluate-in-Transpose.result (λ v. meant v ≡ tensor_in s e r bs)) c.get-in-Transpose.ensures
-        c.evaluate-in-Transpose.ensures.value in
+    subst (λ (e : Term). IfOk c.evaluate-in-Transpose.result (λ v. meant v ≡ tensor_in s e r bs)) c.get-in-Transpose.ensures
+    c.evaluate-in-Transpose.ensures.value in
     let made = of-meant (λ bs t. from_rows
-        (columns (head_of (tail_of (extents_in s c.get-in-Transpose-2.result.now bs)))
-        (zeros (tail_of (tail_of (extents_in s c.get-in-Transpose-2.result.now bs)))) (rows_of t))) c.evaluate-in-Transpose.new.bindings bs
-        c.evaluate-in-Transpose.result c.transposed.result (tensor_in s c.in-Transpose.e r bs) c.transposed.ensures.value
-        c.evaluate-in-Transpose.ensures.bindings child in
+    (columns (head_of (tail_of (extents_in s c.get-in-Transpose-2.result.now bs)))
+    (zeros (tail_of (tail_of (extents_in s c.get-in-Transpose-2.result.now bs)))) (rows_of t))) c.evaluate-in-Transpose.new.bindings bs
+    c.evaluate-in-Transpose.result c.transposed.result (tensor_in s c.in-Transpose.e r bs) c.transposed.ensures.value
+    c.evaluate-in-Transpose.ensures.bindings child in
     subst (λ (y : Tensor). IfOk c.transposed.result (λ v. meant v ≡ y))
-        (ap (λ e. from_rows (columns (head_of (tail_of (extents_in s e bs))) (zeros (tail_of (tail_of (extents_in s e bs))))
-        (rows_of (tensor_in s c.in-Transpose.e r bs)))) c.get-in-Transpose-2.ensures
-        ∙ sym (tensor-Transpose s r (scope bs) c.args.term.now c.in-Transpose.e c.in-Transpose.is)) made
+    (ap (λ e. from_rows (columns (head_of (tail_of (extents_in s e bs))) (zeros (tail_of (tail_of (extents_in s e bs))))
+    (rows_of (tensor_in s c.in-Transpose.e r bs)))) c.get-in-Transpose-2.ensures
+    ∙ sym (tensor-Transpose s r (scope bs) c.args.term.now c.in-Transpose.e c.in-Transpose.is)) made
 
 pub evaluate-returns-in-Transpose-clause-vars : goal.evaluate-returns-in-Transpose-clause-vars
 evaluate-returns-in-Transpose-clause-vars t c =
     let s = c.args.sizes.now in
     of-kept (λ (d : Value). λ (v : Value). meant v ≡ from_rows
-        (columns (head_of (tail_of (extents_in s c.get-in-Transpose-2.result.now c.evaluate-in-Transpose.new.bindings)))
-        (zeros (tail_of (tail_of (extents_in s c.get-in-Transpose-2.result.now c.evaluate-in-Transpose.new.bindings)))) (rows_of (meant d))))
-        (c.evaluate-in-Transpose.new.vars ≡ c.args.vars.now) c.evaluate-in-Transpose.result c.transposed.result c.transposed.ensures.value
-        c.evaluate-in-Transpose.ensures.vars
+    (columns (head_of (tail_of (extents_in s c.get-in-Transpose-2.result.now c.evaluate-in-Transpose.new.bindings)))
+    (zeros (tail_of (tail_of (extents_in s c.get-in-Transpose-2.result.now c.evaluate-in-Transpose.new.bindings)))) (rows_of (meant d))))
+    (c.evaluate-in-Transpose.new.vars ≡ c.args.vars.now) c.evaluate-in-Transpose.result c.transposed.result c.transposed.ensures.value
+    c.evaluate-in-Transpose.ensures.vars
 
 pub evaluate-returns-in-Transpose-clause-bindings : goal.evaluate-returns-in-Transpose-clause-bindings
 evaluate-returns-in-Transpose-clause-bindings t c =
     let s = c.args.sizes.now in
     both-kept c.transposed.result c.transposed.new.bindings c.evaluate-in-Transpose.new.bindings c.args.bindings.now c.transposed.ensures.bindings
-        (of-kept (λ (d : Value). λ (v : Value). meant v ≡ from_rows
-        (columns (head_of (tail_of (extents_in s c.get-in-Transpose-2.result.now c.evaluate-in-Transpose.new.bindings)))
-        (zeros (tail_of (tail_of (extents_in s c.get-in-Transpose-2.result.now c.evaluate-in-Transpose.new.bindings)))) (rows_of (meant d))))
-        (c.evaluate-in-Transpose.new.bindings ≡ c.args.bindings.now) c.evaluate-in-Transpose.result c.transposed.result c.transposed.ensures.value
-        c.evaluate-in-Transpose.ensures.bindings)
+    (of-kept (λ (d : Value). λ (v : Value). meant v ≡ from_rows
+    (columns (head_of (tail_of (extents_in s c.get-in-Transpose-2.result.now c.evaluate-in-Transpose.new.bindings)))
+    (zeros (tail_of (tail_of (extents_in s c.get-in-Transpose-2.result.now c.evaluate-in-Transpose.new.bindings)))) (rows_of (meant d))))
+    (c.evaluate-in-Transpose.new.bindings ≡ c.args.bindings.now) c.evaluate-in-Transpose.result c.transposed.result c.transposed.ensures.value
+    c.evaluate-in-Transpose.ensures.bindings)
 
 pub evaluate-transposed-requires-clause-fits : goal.evaluate-transposed-requires-clause-fits
 evaluate-transposed-requires-clause-fits t c =
     let s = c.args.sizes.now in
     IfOk-weaker c.evaluate-in-Transpose.result _ _
-        (λ v kept. (λ i. fits_in s (c.get-in-Transpose-2.ensures i) (kept i))
-        ∙ fits-Transpose s (extents_of (scope c.args.bindings.now)) c.args.term.now c.in-Transpose.e c.in-Transpose.is c.requires.fits)
-        c.evaluate-in-Transpose.ensures.bindings
+    (λ v kept. (λ i. fits_in s (c.get-in-Transpose-2.ensures i) (kept i))
+    ∙ fits-Transpose s (extents_of (scope c.args.bindings.now)) c.args.term.now c.in-Transpose.e c.in-Transpose.is c.requires.fits)
+    c.evaluate-in-Transpose.ensures.bindings
 
 pub evaluate-returns-in-TruncL-clause-value : goal.evaluate-returns-in-TruncL-clause-value
 evaluate-returns-in-TruncL-clause-value t c =
@@ -516,25 +610,25 @@ evaluate-returns-in-TruncL-clause-value t c =
     let r = c.args.vars.now in
     let bs = c.args.bindings.now in
     let child : IfOk c.evaluate-in-TruncL.result (λ v. meant v ≡ (tensor_in s c.in-TruncL.e r bs)) =
-        subst (λ (e : Term). IfOk c.evaluate-in-TruncL.result (λ v. meant v ≡ tensor_in s e r bs)) c.get-in-TruncL.ensures c.evaluate-in-TruncL.ensures.value in
+    subst (λ (e : Term). IfOk c.evaluate-in-TruncL.result (λ v. meant v ≡ tensor_in s e r bs)) c.get-in-TruncL.ensures c.evaluate-in-TruncL.ensures.value in
     let made = of-meant (λ bs t. from_rows (drop (extent c.in-TruncL.n s) (rows_of t))) c.evaluate-in-TruncL.new.bindings bs c.evaluate-in-TruncL.result
-        c.shortened_first.result (tensor_in s c.in-TruncL.e r bs) c.shortened_first.ensures c.evaluate-in-TruncL.ensures.bindings child in
+    c.shortened_first.result (tensor_in s c.in-TruncL.e r bs) c.shortened_first.ensures c.evaluate-in-TruncL.ensures.bindings child in
     subst (λ (y : Tensor). IfOk c.shortened_first.result (λ v. meant v ≡ y))
-        (sym (tensor-TruncL s r (scope bs) c.args.term.now c.in-TruncL.n c.in-TruncL.e c.in-TruncL.is)) made
+    (sym (tensor-TruncL s r (scope bs) c.args.term.now c.in-TruncL.n c.in-TruncL.e c.in-TruncL.is)) made
 
 pub evaluate-returns-in-TruncL-clause-vars : goal.evaluate-returns-in-TruncL-clause-vars
 evaluate-returns-in-TruncL-clause-vars t c =
     let s = c.args.sizes.now in
     of-kept (λ (d : Value). λ (v : Value). meant v ≡ from_rows (drop (extent c.in-TruncL.n s) (rows_of (meant d))))
-        (c.evaluate-in-TruncL.new.vars ≡ c.args.vars.now) c.evaluate-in-TruncL.result c.shortened_first.result c.shortened_first.ensures
-        c.evaluate-in-TruncL.ensures.vars
+    (c.evaluate-in-TruncL.new.vars ≡ c.args.vars.now) c.evaluate-in-TruncL.result c.shortened_first.result c.shortened_first.ensures
+    c.evaluate-in-TruncL.ensures.vars
 
 pub evaluate-returns-in-TruncL-clause-bindings : goal.evaluate-returns-in-TruncL-clause-bindings
 evaluate-returns-in-TruncL-clause-bindings t c =
     let s = c.args.sizes.now in
     of-kept (λ (d : Value). λ (v : Value). meant v ≡ from_rows (drop (extent c.in-TruncL.n s) (rows_of (meant d))))
-        (c.evaluate-in-TruncL.new.bindings ≡ c.args.bindings.now) c.evaluate-in-TruncL.result c.shortened_first.result c.shortened_first.ensures
-        c.evaluate-in-TruncL.ensures.bindings
+    (c.evaluate-in-TruncL.new.bindings ≡ c.args.bindings.now) c.evaluate-in-TruncL.result c.shortened_first.result c.shortened_first.ensures
+    c.evaluate-in-TruncL.ensures.bindings
 
 pub evaluate-returns-in-TruncR-clause-value : goal.evaluate-returns-in-TruncR-clause-value
 evaluate-returns-in-TruncR-clause-value t c =
@@ -542,25 +636,25 @@ evaluate-returns-in-TruncR-clause-value t c =
     let r = c.args.vars.now in
     let bs = c.args.bindings.now in
     let child : IfOk c.evaluate-in-TruncR.result (λ v. meant v ≡ (tensor_in s c.in-TruncR.e r bs)) =
-        subst (λ (e : Term). IfOk c.evaluate-in-TruncR.result (λ v. meant v ≡ tensor_in s e r bs)) c.get-in-TruncR.ensures c.evaluate-in-TruncR.ensures.value in
+    subst (λ (e : Term). IfOk c.evaluate-in-TruncR.result (λ v. meant v ≡ tensor_in s e r bs)) c.get-in-TruncR.ensures c.evaluate-in-TruncR.ensures.value in
     let made = of-meant (λ bs t. from_rows (drop_last (extent c.in-TruncR.n s) (rows_of t))) c.evaluate-in-TruncR.new.bindings bs c.evaluate-in-TruncR.result
-        c.shortened_last.result (tensor_in s c.in-TruncR.e r bs) c.shortened_last.ensures c.evaluate-in-TruncR.ensures.bindings child in
+    c.shortened_last.result (tensor_in s c.in-TruncR.e r bs) c.shortened_last.ensures c.evaluate-in-TruncR.ensures.bindings child in
     subst (λ (y : Tensor). IfOk c.shortened_last.result (λ v. meant v ≡ y))
-        (sym (tensor-TruncR s r (scope bs) c.args.term.now c.in-TruncR.n c.in-TruncR.e c.in-TruncR.is)) made
+    (sym (tensor-TruncR s r (scope bs) c.args.term.now c.in-TruncR.n c.in-TruncR.e c.in-TruncR.is)) made
 
 pub evaluate-returns-in-TruncR-clause-vars : goal.evaluate-returns-in-TruncR-clause-vars
 evaluate-returns-in-TruncR-clause-vars t c =
     let s = c.args.sizes.now in
     of-kept (λ (d : Value). λ (v : Value). meant v ≡ from_rows (drop_last (extent c.in-TruncR.n s) (rows_of (meant d))))
-        (c.evaluate-in-TruncR.new.vars ≡ c.args.vars.now) c.evaluate-in-TruncR.result c.shortened_last.result c.shortened_last.ensures
-        c.evaluate-in-TruncR.ensures.vars
+    (c.evaluate-in-TruncR.new.vars ≡ c.args.vars.now) c.evaluate-in-TruncR.result c.shortened_last.result c.shortened_last.ensures
+    c.evaluate-in-TruncR.ensures.vars
 
 pub evaluate-returns-in-TruncR-clause-bindings : goal.evaluate-returns-in-TruncR-clause-bindings
 evaluate-returns-in-TruncR-clause-bindings t c =
     let s = c.args.sizes.now in
     of-kept (λ (d : Value). λ (v : Value). meant v ≡ from_rows (drop_last (extent c.in-TruncR.n s) (rows_of (meant d))))
-        (c.evaluate-in-TruncR.new.bindings ≡ c.args.bindings.now) c.evaluate-in-TruncR.result c.shortened_last.result c.shortened_last.ensures
-        c.evaluate-in-TruncR.ensures.bindings
+    (c.evaluate-in-TruncR.new.bindings ≡ c.args.bindings.now) c.evaluate-in-TruncR.result c.shortened_last.result c.shortened_last.ensures
+    c.evaluate-in-TruncR.ensures.bindings
 
 pub evaluate-returns-in-PadL-clause-value : goal.evaluate-returns-in-PadL-clause-value
 evaluate-returns-in-PadL-clause-value t c =
@@ -568,38 +662,38 @@ evaluate-returns-in-PadL-clause-value t c =
     let r = c.args.vars.now in
     let bs = c.args.bindings.now in
     let child : IfOk c.evaluate-in-PadL.result (λ v. meant v ≡ (tensor_in s c.in-PadL.e r bs)) =
-        subst (λ (e : Term). IfOk c.evaluate-in-PadL.result (λ v. meant v ≡ tensor_in s e r bs)) c.get-in-PadL.ensures c.evaluate-in-PadL.ensures.value in
+    subst (λ (e : Term). IfOk c.evaluate-in-PadL.result (λ v. meant v ≡ tensor_in s e r bs)) c.get-in-PadL.ensures c.evaluate-in-PadL.ensures.value in
     let made = of-meant (λ bs t. from_rows (copies (extent c.in-PadL.n s) (zeros (tail_of (extents_in s c.get-in-PadL-2.result.now bs))) ++ rows_of t))
-        c.evaluate-in-PadL.new.bindings bs c.evaluate-in-PadL.result c.padded_before.result (tensor_in s c.in-PadL.e r bs) c.padded_before.ensures.value
-        c.evaluate-in-PadL.ensures.bindings child in
+    c.evaluate-in-PadL.new.bindings bs c.evaluate-in-PadL.result c.padded_before.result (tensor_in s c.in-PadL.e r bs) c.padded_before.ensures.value
+    c.evaluate-in-PadL.ensures.bindings child in
     subst (λ (y : Tensor). IfOk c.padded_before.result (λ v. meant v ≡ y))
-        (ap (λ e. from_rows (copies (extent c.in-PadL.n s) (zeros (tail_of (extents_in s e bs))) ++ rows_of (tensor_in s c.in-PadL.e r bs)))
-        c.get-in-PadL-2.ensures ∙ sym (tensor-PadL s r (scope bs) c.args.term.now c.in-PadL.n c.in-PadL.e c.in-PadL.is)) made
+    (ap (λ e. from_rows (copies (extent c.in-PadL.n s) (zeros (tail_of (extents_in s e bs))) ++ rows_of (tensor_in s c.in-PadL.e r bs)))
+    c.get-in-PadL-2.ensures ∙ sym (tensor-PadL s r (scope bs) c.args.term.now c.in-PadL.n c.in-PadL.e c.in-PadL.is)) made
 
 pub evaluate-returns-in-PadL-clause-vars : goal.evaluate-returns-in-PadL-clause-vars
 evaluate-returns-in-PadL-clause-vars t c =
     let s = c.args.sizes.now in
     of-kept (λ (d : Value). λ (v : Value). meant v ≡ from_rows
-        (copies (extent c.in-PadL.n s) (zeros (tail_of (extents_in s c.get-in-PadL-2.result.now c.evaluate-in-PadL.new.bindings))) ++ rows_of (meant d)))
-        (c.evaluate-in-PadL.new.vars ≡ c.args.vars.now) c.evaluate-in-PadL.result c.padded_before.result c.padded_before.ensures.value
-        c.evaluate-in-PadL.ensures.vars
+    (copies (extent c.in-PadL.n s) (zeros (tail_of (extents_in s c.get-in-PadL-2.result.now c.evaluate-in-PadL.new.bindings))) ++ rows_of (meant d)))
+    (c.evaluate-in-PadL.new.vars ≡ c.args.vars.now) c.evaluate-in-PadL.result c.padded_before.result c.padded_before.ensures.value
+    c.evaluate-in-PadL.ensures.vars
 
 pub evaluate-returns-in-PadL-clause-bindings : goal.evaluate-returns-in-PadL-clause-bindings
 evaluate-returns-in-PadL-clause-bindings t c =
     let s = c.args.sizes.now in
     both-kept c.padded_before.result c.padded_before.new.bindings c.evaluate-in-PadL.new.bindings c.args.bindings.now c.padded_before.ensures.bindings
-        (of-kept (λ (d : Value). λ (v : Value). meant v ≡ from_rows
-        (copies (extent c.in-PadL.n s) (zeros (tail_of (extents_in s c.get-in-PadL-2.result.now c.evaluate-in-PadL.new.bindings))) ++ rows_of (meant d)))
-        (c.evaluate-in-PadL.new.bindings ≡ c.args.bindings.now) c.evaluate-in-PadL.result c.padded_before.result c.padded_before.ensures.value
-        c.evaluate-in-PadL.ensures.bindings)
+    (of-kept (λ (d : Value). λ (v : Value). meant v ≡ from_rows
+    (copies (extent c.in-PadL.n s) (zeros (tail_of (extents_in s c.get-in-PadL-2.result.now c.evaluate-in-PadL.new.bindings))) ++ rows_of (meant d)))
+    (c.evaluate-in-PadL.new.bindings ≡ c.args.bindings.now) c.evaluate-in-PadL.result c.padded_before.result c.padded_before.ensures.value
+    c.evaluate-in-PadL.ensures.bindings)
 
 pub evaluate-padded_before-requires-clause-fits : goal.evaluate-padded_before-requires-clause-fits
 evaluate-padded_before-requires-clause-fits t c =
     let s = c.args.sizes.now in
     IfOk-weaker c.evaluate-in-PadL.result _ _
-        (λ v kept. (λ i. fits_in s (c.get-in-PadL-2.ensures i) (kept i))
-        ∙ (fits-PadL s (extents_of (scope c.args.bindings.now)) c.args.term.now c.in-PadL.n c.in-PadL.e c.in-PadL.is c.requires.fits).0)
-        c.evaluate-in-PadL.ensures.bindings
+    (λ v kept. (λ i. fits_in s (c.get-in-PadL-2.ensures i) (kept i))
+    ∙ (fits-PadL s (extents_of (scope c.args.bindings.now)) c.args.term.now c.in-PadL.n c.in-PadL.e c.in-PadL.is c.requires.fits).0)
+    c.evaluate-in-PadL.ensures.bindings
 
 pub evaluate-returns-in-PadR-clause-value : goal.evaluate-returns-in-PadR-clause-value
 evaluate-returns-in-PadR-clause-value t c =
@@ -607,35 +701,35 @@ evaluate-returns-in-PadR-clause-value t c =
     let r = c.args.vars.now in
     let bs = c.args.bindings.now in
     let child : IfOk c.evaluate-in-PadR.result (λ v. meant v ≡ (tensor_in s c.in-PadR.e r bs)) =
-        subst (λ (e : Term). IfOk c.evaluate-in-PadR.result (λ v. meant v ≡ tensor_in s e r bs)) c.get-in-PadR.ensures c.evaluate-in-PadR.ensures.value in
+    subst (λ (e : Term). IfOk c.evaluate-in-PadR.result (λ v. meant v ≡ tensor_in s e r bs)) c.get-in-PadR.ensures c.evaluate-in-PadR.ensures.value in
     let made = of-meant (λ bs t. from_rows (rows_of t ++ copies (extent c.in-PadR.n s) (zeros (tail_of (extents_in s c.get-in-PadR-2.result.now bs)))))
-        c.evaluate-in-PadR.new.bindings bs c.evaluate-in-PadR.result c.padded_behind.result (tensor_in s c.in-PadR.e r bs) c.padded_behind.ensures.value
-        c.evaluate-in-PadR.ensures.bindings child in
+    c.evaluate-in-PadR.new.bindings bs c.evaluate-in-PadR.result c.padded_behind.result (tensor_in s c.in-PadR.e r bs) c.padded_behind.ensures.value
+    c.evaluate-in-PadR.ensures.bindings child in
     subst (λ (y : Tensor). IfOk c.padded_behind.result (λ v. meant v ≡ y))
-        (ap (λ e. from_rows (rows_of (tensor_in s c.in-PadR.e r bs) ++ copies (extent c.in-PadR.n s) (zeros (tail_of (extents_in s e bs)))))
-        c.get-in-PadR-2.ensures ∙ sym (tensor-PadR s r (scope bs) c.args.term.now c.in-PadR.n c.in-PadR.e c.in-PadR.is)) made
+    (ap (λ e. from_rows (rows_of (tensor_in s c.in-PadR.e r bs) ++ copies (extent c.in-PadR.n s) (zeros (tail_of (extents_in s e bs)))))
+    c.get-in-PadR-2.ensures ∙ sym (tensor-PadR s r (scope bs) c.args.term.now c.in-PadR.n c.in-PadR.e c.in-PadR.is)) made
 
 pub evaluate-returns-in-PadR-clause-vars : goal.evaluate-returns-in-PadR-clause-vars
 evaluate-returns-in-PadR-clause-vars t c =
     let s = c.args.sizes.now in
     of-kept (λ (d : Value). λ (v : Value). meant v ≡ from_rows
-        (rows_of (meant d) ++ copies (extent c.in-PadR.n s) (zeros (tail_of (extents_in s c.get-in-PadR-2.result.now c.evaluate-in-PadR.new.bindings)))))
-        (c.evaluate-in-PadR.new.vars ≡ c.args.vars.now) c.evaluate-in-PadR.result c.padded_behind.result c.padded_behind.ensures.value
-        c.evaluate-in-PadR.ensures.vars
+    (rows_of (meant d) ++ copies (extent c.in-PadR.n s) (zeros (tail_of (extents_in s c.get-in-PadR-2.result.now c.evaluate-in-PadR.new.bindings)))))
+    (c.evaluate-in-PadR.new.vars ≡ c.args.vars.now) c.evaluate-in-PadR.result c.padded_behind.result c.padded_behind.ensures.value
+    c.evaluate-in-PadR.ensures.vars
 
 pub evaluate-returns-in-PadR-clause-bindings : goal.evaluate-returns-in-PadR-clause-bindings
 evaluate-returns-in-PadR-clause-bindings t c =
     let s = c.args.sizes.now in
     both-kept c.padded_behind.result c.padded_behind.new.bindings c.evaluate-in-PadR.new.bindings c.args.bindings.now c.padded_behind.ensures.bindings
-        (of-kept (λ (d : Value). λ (v : Value). meant v ≡ from_rows
-        (rows_of (meant d) ++ copies (extent c.in-PadR.n s) (zeros (tail_of (extents_in s c.get-in-PadR-2.result.now c.evaluate-in-PadR.new.bindings)))))
-        (c.evaluate-in-PadR.new.bindings ≡ c.args.bindings.now) c.evaluate-in-PadR.result c.padded_behind.result c.padded_behind.ensures.value
-        c.evaluate-in-PadR.ensures.bindings)
+    (of-kept (λ (d : Value). λ (v : Value). meant v ≡ from_rows
+    (rows_of (meant d) ++ copies (extent c.in-PadR.n s) (zeros (tail_of (extents_in s c.get-in-PadR-2.result.now c.evaluate-in-PadR.new.bindings)))))
+    (c.evaluate-in-PadR.new.bindings ≡ c.args.bindings.now) c.evaluate-in-PadR.result c.padded_behind.result c.padded_behind.ensures.value
+    c.evaluate-in-PadR.ensures.bindings)
 
 pub evaluate-padded_behind-requires-clause-fits : goal.evaluate-padded_behind-requires-clause-fits
 evaluate-padded_behind-requires-clause-fits t c =
     let s = c.args.sizes.now in
     IfOk-weaker c.evaluate-in-PadR.result _ _
-        (λ v kept. (λ i. fits_in s (c.get-in-PadR-2.ensures i) (kept i))
-        ∙ (fits-PadR s (extents_of (scope c.args.bindings.now)) c.args.term.now c.in-PadR.n c.in-PadR.e c.in-PadR.is c.requires.fits).0)
-        c.evaluate-in-PadR.ensures.bindings
+    (λ v kept. (λ i. fits_in s (c.get-in-PadR-2.ensures i) (kept i))
+    ∙ (fits-PadR s (extents_of (scope c.args.bindings.now)) c.args.term.now c.in-PadR.n c.in-PadR.e c.in-PadR.is c.requires.fits).0)
+    c.evaluate-in-PadR.ensures.bindings

@@ -18,4 +18,4 @@ returns-clause-value c =
     let rest = c.tail_of.ensures ∙ ap tail_of (c.as_slice-2.ensures ∙ found) in
     IfOk-weaker c.split.result _ _
     (λ v e. (tensor, c.in_ok-tensor.was {u = tt}, e ∙ (λ i. from_rows (chunks (count i) (c.from.ensures i) (zeros (rest i)) (rows_of (meant tensor))))))
-        c.split.ensures
+    c.split.ensures

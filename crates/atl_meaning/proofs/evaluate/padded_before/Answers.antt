@@ -16,5 +16,5 @@ returns-clause-value c =
     let found = c.in_ok-found.ensures.extents in
     let rest = c.tail_of.ensures ∙ ap tail_of (c.as_slice.ensures ∙ found) in
     IfOk-weaker c.zeros_before.result _ _
-        (λ v e. (tensor, c.in_ok-tensor.was {u = tt}, e ∙ (λ i. from_rows (copies (c.extent.ensures i) (zeros (rest i)) ++ rows_of (meant tensor)))))
-        c.zeros_before.ensures
+    (λ v e. (tensor, c.in_ok-tensor.was {u = tt}, e ∙ (λ i. from_rows (copies (c.extent.ensures i) (zeros (rest i)) ++ rows_of (meant tensor)))))
+    c.zeros_before.ensures

@@ -8,4 +8,4 @@ pub returns : goal.returns
 returns c =
     let tensor = c.in_ok-tensor.tensor in
     IfOk-weaker c.without_last.result _ _
-        (λ v e. (tensor, c.in_ok-tensor.was {u = tt}, e ∙ ap (λ n. from_rows (drop_last n (rows_of (meant tensor)))) c.extent.ensures)) c.without_last.ensures
+    (λ v e. (tensor, c.in_ok-tensor.was {u = tt}, e ∙ ap (λ n. from_rows (drop_last n (rows_of (meant tensor)))) c.extent.ensures)) c.without_last.ensures

@@ -32,7 +32,7 @@ extents-flattened-requires t c =
     let below : IfOk c.extents-in-Flatten.result (λ d. d ≡ x) =
     subst (λ (e : Term). IfOk c.extents-in-Flatten.result (λ d. d ≡ (denoted s e).extents ds)) c.get-in-Flatten.ensures c.extents-in-Flatten.ensures.extents in
     below_fits (λ d. head_of d * head_of (tail_of d) < 2 ^ 64) c.extents-in-Flatten.result x below
-        ((fits-Flatten s ds c.args.term.now c.in-Flatten.e c.in-Flatten.is c.requires.fits).1)
+    ((fits-Flatten s ds c.args.term.now c.in-Flatten.e c.in-Flatten.is c.requires.fits).1)
 
 pub extents-lengthened-requires : goal.extents-lengthened-requires
 extents-lengthened-requires t c =
@@ -42,8 +42,8 @@ extents-lengthened-requires t c =
     let below : IfOk c.extents-in-PadL.result (λ d. d ≡ x) =
     subst (λ (e : Term). IfOk c.extents-in-PadL.result (λ d. d ≡ (denoted s e).extents ds)) c.get-in-PadL.ensures c.extents-in-PadL.ensures.extents in
     below_fits (λ d. head_of d + c.extent-in-PadL.result < 2 ^ 64) c.extents-in-PadL.result x below
-        (subst (λ (k : ℕ). head_of x + k < 2 ^ 64) (sym c.extent-in-PadL.ensures)
-        (fits-PadL s ds c.args.term.now c.in-PadL.n c.in-PadL.e c.in-PadL.is c.requires.fits).1)
+    (subst (λ (k : ℕ). head_of x + k < 2 ^ 64) (sym c.extent-in-PadL.ensures)
+    (fits-PadL s ds c.args.term.now c.in-PadL.n c.in-PadL.e c.in-PadL.is c.requires.fits).1)
 
 pub extents-lengthened-requires-in-PadR : goal.extents-lengthened-requires-in-PadR
 extents-lengthened-requires-in-PadR t c =
@@ -53,8 +53,8 @@ extents-lengthened-requires-in-PadR t c =
     let below : IfOk c.extents-in-PadR.result (λ d. d ≡ x) =
     subst (λ (e : Term). IfOk c.extents-in-PadR.result (λ d. d ≡ (denoted s e).extents ds)) c.get-in-PadR.ensures c.extents-in-PadR.ensures.extents in
     below_fits (λ d. head_of d + c.extent-in-PadR.result < 2 ^ 64) c.extents-in-PadR.result x below
-        (subst (λ (k : ℕ). head_of x + k < 2 ^ 64) (sym c.extent-in-PadR.ensures)
-        (fits-PadR s ds c.args.term.now c.in-PadR.n c.in-PadR.e c.in-PadR.is c.requires.fits).1)
+    (subst (λ (k : ℕ). head_of x + k < 2 ^ 64) (sym c.extent-in-PadR.ensures)
+    (fits-PadR s ds c.args.term.now c.in-PadR.n c.in-PadR.e c.in-PadR.is c.requires.fits).1)
 
 pub extents-returns-in-Index-clause-extents : goal.extents-returns-in-Index-clause-extents
 extents-returns-in-Index-clause-extents t c =
@@ -69,7 +69,7 @@ extents-returns-in-Index-clause-extents t c =
 pub extents-returns-in-Index-clause-bindings : goal.extents-returns-in-Index-clause-bindings
 extents-returns-in-Index-clause-bindings t c =
     made-kept (λ d. tail_of d) (c.extents-in-Index.new.bindings ≡ c.args.bindings.now) c.extents-in-Index.result c.of_row.result c.of_row.ensures
-        c.extents-in-Index.ensures.bindings
+    c.extents-in-Index.ensures.bindings
 
 pub extents-returns-in-Gen-clause-extents : goal.extents-returns-in-Gen-clause-extents
 extents-returns-in-Gen-clause-extents t c =
@@ -79,13 +79,13 @@ extents-returns-in-Gen-clause-extents t c =
     let below : IfOk c.extents-in-Gen.result (λ d. d ≡ x) =
     subst (λ (e : Term). IfOk c.extents-in-Gen.result (λ d. d ≡ (denoted s e).extents ds)) c.get-in-Gen.ensures c.extents-in-Gen.ensures.extents in
     subst (λ (y : List ℕ). IfOk c.of_rows.result (λ r. r ≡ y))
-        (ap (λ k. k ∷ x) c.extent.ensures ∙ sym (extents-Gen s ds c.args.term.now c.in-Gen.n c.in-Gen.e c.in-Gen.is))
+    (ap (λ k. k ∷ x) c.extent.ensures ∙ sym (extents-Gen s ds c.args.term.now c.in-Gen.n c.in-Gen.e c.in-Gen.is))
     (made-value (λ d. c.extent.result ∷ d) c.extents-in-Gen.result c.of_rows.result x c.of_rows.ensures below)
 
 pub extents-returns-in-Gen-clause-bindings : goal.extents-returns-in-Gen-clause-bindings
 extents-returns-in-Gen-clause-bindings t c =
     made-kept (λ d. c.extent.result ∷ d) (c.extents-in-Gen.new.bindings ≡ c.args.bindings.now) c.extents-in-Gen.result c.of_rows.result c.of_rows.ensures
-        c.extents-in-Gen.ensures.bindings
+    c.extents-in-Gen.ensures.bindings
 
 pub extents-returns-in-Flatten-clause-extents : goal.extents-returns-in-Flatten-clause-extents
 extents-returns-in-Flatten-clause-extents t c =
@@ -100,7 +100,7 @@ extents-returns-in-Flatten-clause-extents t c =
 pub extents-returns-in-Flatten-clause-bindings : goal.extents-returns-in-Flatten-clause-bindings
 extents-returns-in-Flatten-clause-bindings t c =
     made-kept (λ d. (head_of d * head_of (tail_of d)) ∷ tail_of (tail_of d)) (c.extents-in-Flatten.new.bindings ≡ c.args.bindings.now)
-        c.extents-in-Flatten.result c.flattened.result c.flattened.ensures c.extents-in-Flatten.ensures.bindings
+    c.extents-in-Flatten.result c.flattened.result c.flattened.ensures c.extents-in-Flatten.ensures.bindings
 
 pub extents-returns-in-Split-clause-extents : goal.extents-returns-in-Split-clause-extents
 extents-returns-in-Split-clause-extents t c =
@@ -111,12 +111,12 @@ extents-returns-in-Split-clause-extents t c =
     subst (λ (e : Term). IfOk c.extents-in-Split.result (λ d. d ≡ (denoted s e).extents ds)) c.get-in-Split.ensures c.extents-in-Split.ensures.extents in
     subst (λ (y : List ℕ). IfOk c.chunked.result (λ r. r ≡ y)) (sym (extents-Split s ds c.args.term.now c.in-Split.k c.in-Split.e c.in-Split.is))
     (made-value (λ d. ((head_of d + c.in-Split.k - 1) / c.in-Split.k) ∷ c.in-Split.k ∷ tail_of d) c.extents-in-Split.result c.chunked.result x c.chunked.ensures
-        below)
+    below)
 
 pub extents-returns-in-Split-clause-bindings : goal.extents-returns-in-Split-clause-bindings
 extents-returns-in-Split-clause-bindings t c =
     made-kept (λ d. ((head_of d + c.in-Split.k - 1) / c.in-Split.k) ∷ c.in-Split.k ∷ tail_of d) (c.extents-in-Split.new.bindings ≡ c.args.bindings.now)
-        c.extents-in-Split.result c.chunked.result c.chunked.ensures c.extents-in-Split.ensures.bindings
+    c.extents-in-Split.result c.chunked.result c.chunked.ensures c.extents-in-Split.ensures.bindings
 
 pub extents-returns-in-Transpose-clause-extents : goal.extents-returns-in-Transpose-clause-extents
 extents-returns-in-Transpose-clause-extents t c =
@@ -125,14 +125,14 @@ extents-returns-in-Transpose-clause-extents t c =
     let x = (denoted s c.in-Transpose.e).extents ds in
     let below : IfOk c.extents-in-Transpose.result (λ d. d ≡ x) =
     subst (λ (e : Term). IfOk c.extents-in-Transpose.result (λ d. d ≡ (denoted s e).extents ds)) c.get-in-Transpose.ensures
-        c.extents-in-Transpose.ensures.extents in
+    c.extents-in-Transpose.ensures.extents in
     subst (λ (y : List ℕ). IfOk c.transposed.result (λ r. r ≡ y)) (sym (extents-Transpose s ds c.args.term.now c.in-Transpose.e c.in-Transpose.is))
     (made-value (λ d. head_of (tail_of d) ∷ head_of d ∷ tail_of (tail_of d)) c.extents-in-Transpose.result c.transposed.result x c.transposed.ensures below)
 
 pub extents-returns-in-Transpose-clause-bindings : goal.extents-returns-in-Transpose-clause-bindings
 extents-returns-in-Transpose-clause-bindings t c =
     made-kept (λ d. head_of (tail_of d) ∷ head_of d ∷ tail_of (tail_of d)) (c.extents-in-Transpose.new.bindings ≡ c.args.bindings.now)
-        c.extents-in-Transpose.result c.transposed.result c.transposed.ensures c.extents-in-Transpose.ensures.bindings
+    c.extents-in-Transpose.result c.transposed.result c.transposed.ensures c.extents-in-Transpose.ensures.bindings
 
 pub extents-returns-in-TruncL-clause-extents : goal.extents-returns-in-TruncL-clause-extents
 extents-returns-in-TruncL-clause-extents t c =
@@ -142,14 +142,14 @@ extents-returns-in-TruncL-clause-extents t c =
     let below : IfOk c.extents-in-TruncL.result (λ d. d ≡ x) =
     subst (λ (e : Term). IfOk c.extents-in-TruncL.result (λ d. d ≡ (denoted s e).extents ds)) c.get-in-TruncL.ensures c.extents-in-TruncL.ensures.extents in
     subst (λ (y : List ℕ). IfOk c.shortened.result (λ r. r ≡ y))
-        (ap (λ k. (head_of x - k) ∷ tail_of x) c.extent-in-TruncL.ensures
-        ∙ sym (extents-TruncL s ds c.args.term.now c.in-TruncL.n c.in-TruncL.e c.in-TruncL.is))
+    (ap (λ k. (head_of x - k) ∷ tail_of x) c.extent-in-TruncL.ensures
+    ∙ sym (extents-TruncL s ds c.args.term.now c.in-TruncL.n c.in-TruncL.e c.in-TruncL.is))
     (made-value (λ d. (head_of d - c.extent-in-TruncL.result) ∷ tail_of d) c.extents-in-TruncL.result c.shortened.result x c.shortened.ensures below)
 
 pub extents-returns-in-TruncL-clause-bindings : goal.extents-returns-in-TruncL-clause-bindings
 extents-returns-in-TruncL-clause-bindings t c =
     made-kept (λ d. (head_of d - c.extent-in-TruncL.result) ∷ tail_of d) (c.extents-in-TruncL.new.bindings ≡ c.args.bindings.now) c.extents-in-TruncL.result
-        c.shortened.result c.shortened.ensures c.extents-in-TruncL.ensures.bindings
+    c.shortened.result c.shortened.ensures c.extents-in-TruncL.ensures.bindings
 
 pub extents-returns-in-TruncR-clause-extents : goal.extents-returns-in-TruncR-clause-extents
 extents-returns-in-TruncR-clause-extents t c =
@@ -159,15 +159,15 @@ extents-returns-in-TruncR-clause-extents t c =
     let below : IfOk c.extents-in-TruncR.result (λ d. d ≡ x) =
     subst (λ (e : Term). IfOk c.extents-in-TruncR.result (λ d. d ≡ (denoted s e).extents ds)) c.get-in-TruncR.ensures c.extents-in-TruncR.ensures.extents in
     subst (λ (y : List ℕ). IfOk c.shortened-in-TruncR.result (λ r. r ≡ y))
-        (ap (λ k. (head_of x - k) ∷ tail_of x) c.extent-in-TruncR.ensures
-        ∙ sym (extents-TruncR s ds c.args.term.now c.in-TruncR.n c.in-TruncR.e c.in-TruncR.is))
+    (ap (λ k. (head_of x - k) ∷ tail_of x) c.extent-in-TruncR.ensures
+    ∙ sym (extents-TruncR s ds c.args.term.now c.in-TruncR.n c.in-TruncR.e c.in-TruncR.is))
     (made-value (λ d. (head_of d - c.extent-in-TruncR.result) ∷ tail_of d) c.extents-in-TruncR.result c.shortened-in-TruncR.result x
-        c.shortened-in-TruncR.ensures below)
+    c.shortened-in-TruncR.ensures below)
 
 pub extents-returns-in-TruncR-clause-bindings : goal.extents-returns-in-TruncR-clause-bindings
 extents-returns-in-TruncR-clause-bindings t c =
     made-kept (λ d. (head_of d - c.extent-in-TruncR.result) ∷ tail_of d) (c.extents-in-TruncR.new.bindings ≡ c.args.bindings.now) c.extents-in-TruncR.result
-        c.shortened-in-TruncR.result c.shortened-in-TruncR.ensures c.extents-in-TruncR.ensures.bindings
+    c.shortened-in-TruncR.result c.shortened-in-TruncR.ensures c.extents-in-TruncR.ensures.bindings
 
 pub extents-returns-in-PadL-clause-extents : goal.extents-returns-in-PadL-clause-extents
 extents-returns-in-PadL-clause-extents t c =
@@ -177,13 +177,13 @@ extents-returns-in-PadL-clause-extents t c =
     let below : IfOk c.extents-in-PadL.result (λ d. d ≡ x) =
     subst (λ (e : Term). IfOk c.extents-in-PadL.result (λ d. d ≡ (denoted s e).extents ds)) c.get-in-PadL.ensures c.extents-in-PadL.ensures.extents in
     subst (λ (y : List ℕ). IfOk c.lengthened.result (λ r. r ≡ y))
-        (ap (λ k. (head_of x + k) ∷ tail_of x) c.extent-in-PadL.ensures ∙ sym (extents-PadL s ds c.args.term.now c.in-PadL.n c.in-PadL.e c.in-PadL.is))
+    (ap (λ k. (head_of x + k) ∷ tail_of x) c.extent-in-PadL.ensures ∙ sym (extents-PadL s ds c.args.term.now c.in-PadL.n c.in-PadL.e c.in-PadL.is))
     (made-value (λ d. (head_of d + c.extent-in-PadL.result) ∷ tail_of d) c.extents-in-PadL.result c.lengthened.result x c.lengthened.ensures below)
 
 pub extents-returns-in-PadL-clause-bindings : goal.extents-returns-in-PadL-clause-bindings
 extents-returns-in-PadL-clause-bindings t c =
     made-kept (λ d. (head_of d + c.extent-in-PadL.result) ∷ tail_of d) (c.extents-in-PadL.new.bindings ≡ c.args.bindings.now) c.extents-in-PadL.result
-        c.lengthened.result c.lengthened.ensures c.extents-in-PadL.ensures.bindings
+    c.lengthened.result c.lengthened.ensures c.extents-in-PadL.ensures.bindings
 
 pub extents-returns-in-PadR-clause-extents : goal.extents-returns-in-PadR-clause-extents
 extents-returns-in-PadR-clause-extents t c =
@@ -193,11 +193,11 @@ extents-returns-in-PadR-clause-extents t c =
     let below : IfOk c.extents-in-PadR.result (λ d. d ≡ x) =
     subst (λ (e : Term). IfOk c.extents-in-PadR.result (λ d. d ≡ (denoted s e).extents ds)) c.get-in-PadR.ensures c.extents-in-PadR.ensures.extents in
     subst (λ (y : List ℕ). IfOk c.lengthened-in-PadR.result (λ r. r ≡ y))
-        (ap (λ k. (head_of x + k) ∷ tail_of x) c.extent-in-PadR.ensures ∙ sym (extents-PadR s ds c.args.term.now c.in-PadR.n c.in-PadR.e c.in-PadR.is))
+    (ap (λ k. (head_of x + k) ∷ tail_of x) c.extent-in-PadR.ensures ∙ sym (extents-PadR s ds c.args.term.now c.in-PadR.n c.in-PadR.e c.in-PadR.is))
     (made-value (λ d. (head_of d + c.extent-in-PadR.result) ∷ tail_of d) c.extents-in-PadR.result c.lengthened-in-PadR.result x c.lengthened-in-PadR.ensures
-        below)
+    below)
 
 pub extents-returns-in-PadR-clause-bindings : goal.extents-returns-in-PadR-clause-bindings
 extents-returns-in-PadR-clause-bindings t c =
     made-kept (λ d. (head_of d + c.extent-in-PadR.result) ∷ tail_of d) (c.extents-in-PadR.new.bindings ≡ c.args.bindings.now) c.extents-in-PadR.result
-        c.lengthened-in-PadR.result c.lengthened-in-PadR.ensures c.extents-in-PadR.ensures.bindings
+    c.lengthened-in-PadR.result c.lengthened-in-PadR.ensures c.extents-in-PadR.ensures.bindings

@@ -25,7 +25,7 @@ left_of_limit-requires c =
     let none : first_of (first_big_input m.inputs s) (outputs_surveyed s m.outputs (shapes_of m.inputs)) ≡ None = sym c.in_ok-words.ensures ∙ c.in-None.is in
     ap (outputs_exact s) c.as_slice.ensures
     ∙ (ready-of s m.inputs m.outputs (shapes_of m.inputs) (inputs-ready m s c.requires.sound c.requires.allowed)
-        (outputs-ready m s c.requires.sound c.requires.allowed) none).1
+    (outputs-ready m s c.requires.sound c.requires.allowed) none).1
 
 pub computed-requires : goal.computed-requires
 computed-requires c =
@@ -33,7 +33,7 @@ computed-requires c =
     let s = c.args.sizes.now in
     let none : first_of (first_big_input m.inputs s) (outputs_surveyed s m.outputs (shapes_of m.inputs)) ≡ None = sym c.in_ok-words.ensures ∙ c.in-None.is in
     let both = ready-of s m.inputs m.outputs (shapes_of m.inputs) (inputs-ready m s c.requires.sound c.requires.allowed)
-        (outputs-ready m s c.requires.sound c.requires.allowed) none in
+    (outputs-ready m s c.requires.sound c.requires.allowed) none in
     record {
       inputs = both.0;
       outputs = both.1;

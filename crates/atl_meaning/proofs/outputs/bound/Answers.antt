@@ -27,8 +27,11 @@ loop-at-preserved c =
       counted = (and_parts (all_counted s d.extents) (inputs_counted s rest) (ap (inputs_counted s) (sym e) ∙ c.loop-at.invariant.counted)).1;
       bound = ap scope pushed ∙ map-last (λ b. (b.extents, meant b.value)) c.loop-at.bindings.items b
           ∙ (λ i. c.loop-at.invariant.bound i
-              ++ ((c.in_ok-extents.ensures ∙ ap (λ ns. extents_at ns s) c.as_slice.ensures
-              ∙ ap (λ (x : InputDecl). extents_at x.extents s) (sym c.index-declared-at.is)) i, meant (c.in_ok-value.ensures i)) ∷ [])
+          ++ (
+            (c.in_ok-extents.ensures ∙ ap (λ ns. extents_at ns s) c.as_slice.ensures
+                ∙ ap (λ (x : InputDecl). extents_at x.extents s) (sym c.index-declared-at.is)) i,
+            meant (c.in_ok-value.ensures i),
+          ) ∷ [])
           ∙ sym (bound-next meant ds s vs k d v (omega arith) (omega arith) c.index-declared-at.is c.index-inputs-at.is);
     }
 

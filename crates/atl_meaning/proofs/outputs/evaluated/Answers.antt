@@ -19,10 +19,10 @@ loop-output-preserved c =
     let t = scope c.args.bindings.now in
     let e = drop-next os k o (omega arith) c.output-item.is in
     let parts = and_parts (counted s o.term && exact s o.term []) (outputs_exact s (drop (k + 1) os))
-        (ap (outputs_exact s) (sym e) ∙ c.loop-output.invariant.exact) in
+    (ap (outputs_exact s) (sym e) ∙ c.loop-output.invariant.exact) in
     let more = ap (λ i. take i os) (add-one k) ∙ take-suc os k o (omega arith) in
     let here = c.in_ok-evaluate.ensures.value ∙ (λ i. tensor_in s o.term (c.loop-output.invariant.vars i) (c.loop-output.invariant.bindings i))
-        ∙ ap (λ (o : OutputDecl). (denoted s o.term).tensor [] t) c.output-item.is in
+    ∙ ap (λ (o : OutputDecl). (denoted s o.term).tensor [] t) c.output-item.is in
     record {
       vars = c.in_ok-evaluate.ensures.vars ∙ c.loop-output.invariant.vars;
       bindings = c.in_ok-evaluate.ensures.bindings ∙ c.loop-output.invariant.bindings;

@@ -17,7 +17,7 @@ loop-output-preserved c =
     let e = drop-next os k o (omega arith) c.output-item.is in
     let parts = and_parts (counted s o.term && exact s o.term []) (outputs_exact s rest) (ap (outputs_exact s) (sym e) ∙ c.loop-output.invariant.exact) in
     let some : spent (turn_fold s o.term []) left ≡ Some c.in-Some.rest = ap (λ r. spent (turn_fold s o.term r) left) (sym c.loop-output.invariant.vars)
-        ∙ sym c.in_ok-rest.ensures.left ∙ c.in-Some.is in
+    ∙ sym c.in_ok-rest.ensures.left ∙ c.in-Some.is in
     record {
       vars = c.in_ok-rest.ensures.vars ∙ c.loop-output.invariant.vars;
       exact = parts.1;

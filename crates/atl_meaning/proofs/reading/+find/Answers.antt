@@ -37,14 +37,14 @@ returns-in-Some-Some t c =
     let bs = c.args.bindings.now in
     let e = c.in-Index.e in
     let child = ap (λ e. tensor_in s e r bs) (sym c.get-in-Index.ensures)
-        ∙ twice-some c.find.result (tensor_in s (c.get-in-Index.result.now) r bs ≡ zeros (extents_in s (c.get-in-Index.result.now) bs))
-        (λ v. tensor_in s (c.get-in-Index.result.now) r bs ≡ meant v.now) c.in-Some-Some.field-0 c.in-Some-Some.tensor c.in-Some-Some.is
-        c.in-Some-Some.field-0-is c.find.ensures in
+    ∙ twice-some c.find.result (tensor_in s (c.get-in-Index.result.now) r bs ≡ zeros (extents_in s (c.get-in-Index.result.now) bs))
+    (λ v. tensor_in s (c.get-in-Index.result.now) r bs ≡ meant v.now) c.in-Some-Some.field-0 c.in-Some-Some.tensor c.in-Some-Some.is
+    c.in-Some-Some.field-0-is c.find.ensures in
     let extents = ap (λ e. extents_in s e bs) c.in-Index.is ∙ ap (λ d. d.extents (extents_of (scope bs))) (denoted-Index s e c.in-Index.x) in
     let tensor = ap (λ e. tensor_in s e r bs) c.in-Index.is ∙ ap (λ d. d.tensor r (scope bs)) (denoted-Index s e c.in-Index.x)
     ∙ ap (λ v. row_at (rows_of v) (items_value s r c.in-Index.x) (zeros (tail_of (extents_in s e bs)))) child in
     match-map c.row_of_index-row.result _ _ _ _ (λ h. tensor ∙ h ∙ ap zeros (sym extents)) (λ row h. tensor ∙ h)
-        (c.row_of_index-row.ensures (zeros (tail_of (extents_in s e bs))))
+    (c.row_of_index-row.ensures (zeros (tail_of (extents_in s e bs))))
 
 pub returns-in-Some-None : goal.returns-in-Some-None
 returns-in-Some-None t c =
@@ -53,9 +53,9 @@ returns-in-Some-None t c =
     let bs = c.args.bindings.now in
     let e = c.in-Index.e in
     let child = ap (λ e. tensor_in s e r bs) (sym c.get-in-Index.ensures)
-        ∙ twice-none c.find.result (tensor_in s (c.get-in-Index.result.now) r bs ≡ zeros (extents_in s (c.get-in-Index.result.now) bs))
-        (λ v. tensor_in s (c.get-in-Index.result.now) r bs ≡ meant v.now) c.in-Some-None.field-0 c.in-Some-None.is c.in-Some-None.field-0-is c.find.ensures
-        ∙ ap (λ e. zeros (extents_in s e bs)) c.get-in-Index.ensures in
+    ∙ twice-none c.find.result (tensor_in s (c.get-in-Index.result.now) r bs ≡ zeros (extents_in s (c.get-in-Index.result.now) bs))
+    (λ v. tensor_in s (c.get-in-Index.result.now) r bs ≡ meant v.now) c.in-Some-None.field-0 c.in-Some-None.is c.in-Some-None.field-0-is c.find.ensures
+    ∙ ap (λ e. zeros (extents_in s e bs)) c.get-in-Index.ensures in
     let ds = extents_in s e bs in
     ap (λ e. tensor_in s e r bs) c.in-Index.is ∙ ap (λ d. d.tensor r (scope bs)) (denoted-Index s e c.in-Index.x)
     ∙ ap (λ v. row_at (rows_of v) (items_value s r c.in-Index.x) (zeros (tail_of ds))) child ∙ zeros-row ds (items_value s r c.in-Index.x)

@@ -16,5 +16,5 @@ returns-in-Some-None c =
     let ds = extents_in s e bs in
     ap (λ v. row_at (rows_of v) c.args.number (zeros (tail_of ds)))
     (twice-none c.find.result (tensor_in s e r bs ≡ zeros ds) (λ v. tensor_in s e r bs ≡ meant v.now) c.in-Some-None.field-0 c.in-Some-None.is
-        c.in-Some-None.field-0-is c.find.ensures)
+    c.in-Some-None.field-0-is c.find.ensures)
     ∙ zeros-row ds c.args.number

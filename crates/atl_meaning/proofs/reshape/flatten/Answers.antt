@@ -16,4 +16,4 @@ pub returns : goal.returns
 returns c =
     meant-Row c.loop-row.rows
     ∙ ap from_rows (c.loop-row.invariant ∙ ap (λ xs. joined (map meant xs)) (take_all c.loop-row.row-index c.rows_of-row-items.result.now (omega arith))
-        ∙ ap joined c.rows_of-row-items.ensures)
+    ∙ ap joined c.rows_of-row-items.ensures)

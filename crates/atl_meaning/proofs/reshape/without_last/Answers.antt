@@ -9,4 +9,4 @@ pub returns : goal.returns
 returns c =
     meant-Row c.in_ok-copied.field-0
     ∙ ap from_rows (ap (map meant) (c.in_ok-copied.ensures ∙ c.before_last-rows.ensures) ∙ map-drop_last meant c.args.count c.rows_of.result.now
-        ∙ ap (drop_last c.args.count) c.rows_of.ensures)
+    ∙ ap (drop_last c.args.count) c.rows_of.ensures)

@@ -21,5 +21,5 @@ returns-clause-found c =
     let ns = c.in_ok-extents.ensures {u = tt} ∙ ap (λ n. n ∷ child.extents) (c.in_ok-copy.ensures {u = tt}) in
     let large = c.is_large.ensures ∙ ap (λ floor. is_large floor [] n) c.requires.floor in
     let found = c.at_node.ensures.found ∙ ap (λ ns. found_at s ns c.is_large.result child.big) ns
-        ∙ ap (λ large. found_at s (n ∷ child.extents) large child.big) large in
+    ∙ ap (λ large. found_at s (n ∷ child.extents) large child.big) large in
     (child, c.in_ok-child.was {u = tt}, found)

@@ -46,7 +46,7 @@ left_after_loop-returns-in-None-clause-left t c =
     let n = turn_fold s body (i ∷ r) in
     let vars = c.in_ok-enter.ensures ∙ ap (λ v. i ∷ v) c.loop-i.invariant.vars in
     let none : spent n (c.loop-i.rest - 1) ≡ None = ap (λ v. spent (turn_fold s body v) (c.loop-i.rest - 1)) (sym vars) ∙ sym c.in_ok-after.ensures.left
-        ∙ c.in-None.is in
+    ∙ c.in-None.is in
     let short = short-is n (c.loop-i.rest - 1) none in
     sym (ap (λ k. spent (total_below k f) c.args.left) (sym c.extent-turns.ensures)
     ∙ loop-stops f i c.extent-turns.result n c.args.left c.loop-i.rest (omega arith) (λ _. f i) c.loop-i.invariant.left (omega (arith, short)))
@@ -61,7 +61,7 @@ left_after_loop-loop-i-preserved t c =
     let n = turn_fold s body (i ∷ r) in
     let vars = c.in_ok-enter.ensures ∙ ap (λ v. i ∷ v) c.loop-i.invariant.vars in
     let some : spent n (c.loop-i.rest - 1) ≡ Some c.in-Some.after = ap (λ v. spent (turn_fold s body v) (c.loop-i.rest - 1)) (sym vars)
-        ∙ sym c.in_ok-after.ensures.left ∙ c.in-Some.is in
+    ∙ sym c.in_ok-after.ensures.left ∙ c.in-Some.is in
     record {
       vars = c.leave.ensures ∙ ap rest_of (c.in_ok-after.ensures.vars ∙ c.in_ok-enter.ensures) ∙ c.loop-i.invariant.vars;
       left = loop-next f i n c.args.left c.loop-i.rest c.in-Some.after (λ _. f i) c.loop-i.invariant.left c.if-rest-eq0.false some;
@@ -74,10 +74,14 @@ left_after_loop-left_after-requires t c =
     let r = c.args.vars.now in
     let i = c.loop-i.i in
     let vars = c.in_ok-enter.ensures ∙ ap (λ v. i ∷ v) c.loop-i.invariant.vars in
-    let below : i < extent c.args.count.now s = omega (arith, c.extent-turns.ensures) in
-    (search (rules, the_lemmas),
-        (c.requires.counted, subst (λ (v : List ℕ). exact s body v ≡ true) (sym vars)
-        (below-at (extent c.args.count.now s) (λ j. exact s body (j ∷ r)) i c.requires.exact below)))
+    let below : i < extent c.args.count.now s = omega (arith, c.extent-turns.ensures) in (
+      search (rules, the_lemmas),
+      (
+        c.requires.counted,
+        subst (λ (v : List ℕ). exact s body v ≡ true) (sym vars)
+            (below-at (extent c.args.count.now s) (λ j. exact s body (j ∷ r)) i c.requires.exact below),
+      ),
+    )
 
 pub left_after-left_after-requires-in-Index : goal.left_after-left_after-requires-in-Index
 left_after-left_after-requires-in-Index t c =
@@ -99,7 +103,10 @@ left_after-left_after_second-requires t c =
     let s = c.args.sizes.now in
     let both = both-exact s c.args.term.now c.in-Let.a c.in-Let.b c.args.vars.now c.in-Let.is c.requires.counted c.requires.exact in
     let same : c.left_after.new.vars ≡ c.args.vars.now = c.in_ok-rest-in-Let.ensures.vars in
-    let later = subst (λ (r : List ℕ). exact s c.in-Let.b r ≡ true) (sym same) both.1.1 in
-    (search (rules, the_lemmas),
-        (subst (λ (e : Term). counted s e ≡ true) (sym c.get-in-Let-2.ensures) both.0.1,
-        subst (λ (e : Term). exact s e c.left_after.new.vars ≡ true) (sym c.get-in-Let-2.ensures) later))
+    let later = subst (λ (r : List ℕ). exact s c.in-Let.b r ≡ true) (sym same) both.1.1 in (
+      search (rules, the_lemmas),
+      (
+        subst (λ (e : Term). counted s e ≡ true) (sym c.get-in-Let-2.ensures) both.0.1,
+        subst (λ (e : Term). exact s e c.left_after.new.vars ≡ true) (sym c.get-in-Let-2.ensures) later,
+      ),
+    )

@@ -20,7 +20,7 @@ loop-form-preserved c =
       most = omega (arith, c.saturating_mul-words.ensures);
       words = product-next c.loop-form.words (max (extent n s) 1) (word_product (extents_at rest s)) cap c.saturating_mul-words.result
           (c.saturating_mul-words.ensures ∙ ap (λ x. min (c.loop-form.words * x) cap) (c.max.ensures ∙ ap (λ x. max x 1) c.extent.ensures))
-              (word_product-least (extents_at rest s))
+          (word_product-least (extents_at rest s))
           ∙ ap (λ ns. min (c.loop-form.words * word_product (extents_at ns s)) cap) (sym e)
           ∙ c.loop-form.invariant.words;
     }

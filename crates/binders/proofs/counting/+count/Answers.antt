@@ -93,7 +93,7 @@ count-returns-in-Gen g t c =
     let w = c.in-Gen in
     let d = c.under_index in
     count-Gen m r c.args.term.now w.field-0 w.e i j d.result.index d.result.tensor c.more-in-Gen.result w.is d.ensures.index d.ensures.tensor
-        c.more-in-Gen.ensures
+    c.more-in-Gen.ensures
 
 pub count-returns-in-Sum : goal.count-returns-in-Sum
 count-returns-in-Sum g t c =
@@ -104,7 +104,7 @@ count-returns-in-Sum g t c =
     let w = c.in-Sum in
     let d = c.under_index-in-Sum in
     count-Sum m r c.args.term.now w.field-0 w.e i j d.result.index d.result.tensor c.more-in-Sum.result w.is d.ensures.index d.ensures.tensor
-        c.more-in-Sum.ensures
+    c.more-in-Sum.ensures
 
 pub count-returns-in-Let : goal.count-returns-in-Let
 count-returns-in-Let g t c =
@@ -115,7 +115,7 @@ count-returns-in-Let g t c =
     let w = c.in-Let in
     let d = c.under_tensor in
     count-Let m r c.args.term.now w.a w.b i j d.result.index d.result.tensor c.more-in-Let.result c.inner.result c.together.result w.is d.ensures.index
-        d.ensures.tensor c.together.ensures
+    d.ensures.tensor c.together.ensures
     c.more-in-Let.ensures c.inner.ensures
 
 pub count-returns-in-Add : goal.count-returns-in-Add
@@ -126,7 +126,7 @@ count-returns-in-Add g t c =
     let j = c.args.depths.tensor in
     let w = c.in-Add in
     count-Add m r c.args.term.now w.a w.b i j c.more-in-Add.result c.inner-in-Add.result c.together-in-Add.result w.is c.together-in-Add.ensures
-        c.more-in-Add.ensures c.inner-in-Add.ensures
+    c.more-in-Add.ensures c.inner-in-Add.ensures
 
 pub count-returns-in-Sub : goal.count-returns-in-Sub
 count-returns-in-Sub g t c =
@@ -136,7 +136,7 @@ count-returns-in-Sub g t c =
     let j = c.args.depths.tensor in
     let w = c.in-Sub in
     count-Sub m r c.args.term.now w.a w.b i j c.more-in-Sub.result c.inner-in-Sub.result c.together-in-Sub.result w.is c.together-in-Sub.ensures
-        c.more-in-Sub.ensures c.inner-in-Sub.ensures
+    c.more-in-Sub.ensures c.inner-in-Sub.ensures
 
 pub count-returns-in-Mul : goal.count-returns-in-Mul
 count-returns-in-Mul g t c =
@@ -146,7 +146,7 @@ count-returns-in-Mul g t c =
     let j = c.args.depths.tensor in
     let w = c.in-Mul in
     count-Mul m r c.args.term.now w.a w.b i j c.more-in-Mul.result c.inner-in-Mul.result c.together-in-Mul.result w.is c.together-in-Mul.ensures
-        c.more-in-Mul.ensures c.inner-in-Mul.ensures
+    c.more-in-Mul.ensures c.inner-in-Mul.ensures
 
 pub count-returns-in-Concat : goal.count-returns-in-Concat
 count-returns-in-Concat g t c =
@@ -156,4 +156,4 @@ count-returns-in-Concat g t c =
     let j = c.args.depths.tensor in
     let w = c.in-Concat in
     count-Concat m r c.args.term.now w.a w.b i j c.more-in-Concat.result c.inner-in-Concat.result c.together-in-Concat.result w.is c.together-in-Concat.ensures
-        c.more-in-Concat.ensures c.inner-in-Concat.ensures
+    c.more-in-Concat.ensures c.inner-in-Concat.ensures

@@ -26,9 +26,9 @@ pub returns-in-Ok-None : goal.returns-in-Ok-None
 returns-in-Ok-None g c =
     let w = c.in-Ok-None in
     hollow-too_long (g.M.VarMap.meaning c.args.map.now) (g.M.VarMap.refusals c.args.map.now) c.args.term.now c.args.nodes w.field-0 w.field-0-is
-        (w.ensures {u = tt})
+    (w.ensures {u = tt})
 
 pub returns-in-Err : goal.returns-in-Err
 returns-in-Err g c =
     hollow-refused (g.M.VarMap.meaning c.args.map.now) (g.M.VarMap.refusals c.args.map.now) c.args.term.now c.args.nodes c.in-Err.refusal
-        (c.in-Err.ensures {u = tt})
+    (c.in-Err.ensures {u = tt})

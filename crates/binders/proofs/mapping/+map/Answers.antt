@@ -92,7 +92,7 @@ part-returns-in_err-n-in-Sum g t c =
     p.0 c.from_residual-in_err-n-in-Sum.result c.parts-in-Sum.ensures c.in_err-n-in-Sum.was p.2 p.1
     (of-Sum m r c.args.term.now i j w.n w.e c.under_index-in-Sum.result.index c.under_index-in-Sum.result.tensor
     c.copy-in-Sum.result c.below-in-Sum.result w.is c.under_index-in-Sum.ensures.index c.under_index-in-Sum.ensures.tensor c.copy-in-Sum.ensures
-        c.below-in-Sum.ensures)
+    c.below-in-Sum.ensures)
 
 pub part-returns-in_err-c-in-Guard : goal.part-returns-in_err-c-in-Guard
 part-returns-in_err-c-in-Guard g t c =
@@ -118,7 +118,7 @@ part-returns-in_err-a-in-Let g t c =
     p.0 c.from_residual-in_err-a-in-Let.result c.parts-in-Let.ensures c.in_err-a-in-Let.was p.2 p.1
     (of-Let m r c.args.term.now i j w.a w.b c.under_tensor.result.index c.under_tensor.result.tensor
     c.below-in-Let.result c.below-in-Let-2.result w.is c.under_tensor.ensures.index c.under_tensor.ensures.tensor c.below-in-Let.ensures
-        c.below-in-Let-2.ensures)
+    c.below-in-Let-2.ensures)
 
 pub part-returns-in_err-a-in-Add : goal.part-returns-in_err-a-in-Add
 part-returns-in_err-a-in-Add g t c =

@@ -39,7 +39,7 @@ returns-in-Err c =
     let m = shift_map c.args.by.index c.args.by.tensor in
     subst (λ e. IsAnswer (mapped m 0 0 c.args.term.now) None (Err e))
     (sym (memory_left m no_refusals c.args.term.now c.in-Err.refusal never-no_refusals
-        (shift-fits c.args.by.index c.args.by.tensor c.args.term.now c.told.ensures) c.in-Err.ensures)) tt
+    (shift-fits c.args.by.index c.args.by.tensor c.args.term.now c.told.ensures) c.in-Err.ensures)) tt
 
 pub unreachable-requires : goal.unreachable-requires
 unreachable-requires c =

@@ -8,7 +8,7 @@ returns-in-Some g c =
     let r = g.M.VarMap.refusals c.args.map.now in
     let d = c.args.depths in
     ge_some m d.index d.tensor c.args.cmp.now c.in-Ge.x c.in_ok-x-in-Ge.field-0 (λ e. form_causes m r e d.index d.tensor c.in-Ge.x)
-        (c.in_ok-x-in-Ge.ensures {u = tt})
+    (c.in_ok-x-in-Ge.ensures {u = tt})
     c.in-Some.x c.in-Ge.is c.in-Some.is
 
 pub returns-in-None : goal.returns-in-None
@@ -17,7 +17,7 @@ returns-in-None g c =
     let r = g.M.VarMap.refusals c.args.map.now in
     let d = c.args.depths in
     ge_none m d.index d.tensor c.args.cmp.now c.in-Ge.x c.in_ok-x-in-Ge.field-0 (λ e. form_causes m r e d.index d.tensor c.in-Ge.x)
-        (c.in_ok-x-in-Ge.ensures {u = tt})
+    (c.in_ok-x-in-Ge.ensures {u = tt})
     c.in-Ge.is c.in-None.is
 
 pub returns-in-Some-2 : goal.returns-in-Some-2
@@ -26,7 +26,7 @@ returns-in-Some-2 g c =
     let r = g.M.VarMap.refusals c.args.map.now in
     let d = c.args.depths in
     eq_some m d.index d.tensor c.args.cmp.now c.in-Eq.x c.in_ok-x-in-Eq.field-0 (λ e. form_causes m r e d.index d.tensor c.in-Eq.x)
-        (c.in_ok-x-in-Eq.ensures {u = tt})
+    (c.in_ok-x-in-Eq.ensures {u = tt})
     c.in-Some-2.x c.in-Eq.is c.in-Some-2.is
 
 pub returns-in-None-2 : goal.returns-in-None-2
@@ -35,5 +35,5 @@ returns-in-None-2 g c =
     let r = g.M.VarMap.refusals c.args.map.now in
     let d = c.args.depths in
     eq_none m d.index d.tensor c.args.cmp.now c.in-Eq.x c.in_ok-x-in-Eq.field-0 (λ e. form_causes m r e d.index d.tensor c.in-Eq.x)
-        (c.in_ok-x-in-Eq.ensures {u = tt})
+    (c.in_ok-x-in-Eq.ensures {u = tt})
     c.in-Eq.is c.in-None-2.is

@@ -25,11 +25,11 @@ loop-cmp-preserved g c =
     let inv = c.loop-cmp.invariant in
     let e : back ≡ x ∷ rest = drop_more items c.loop-cmp.cmp-index x c.loop-cmp-test.true ∙ ap (λ z. z ∷ rest) (sym c.cmp-item.is) in
     let within = (or_parts (form_beyond (g.M.VarMap.reach c.args.map.now) i j (cmp_form x)) _
-        (ap (any_cmp (form_beyond (g.M.VarMap.reach c.args.map.now) i j)) (sym e) ∙ inv.within)).1 in
+    (ap (any_cmp (form_beyond (g.M.VarMap.reach c.args.map.now) i j)) (sym e) ∙ inv.within)).1 in
     elim c.match-branch-2.branch [
       | in-Some+in_ok-push-in-Some w ↦
           let h : IsCmp (f x) (λ k. form_causes m r k i j (cmp_form x)) (Ok (Some w.in-Some.cmp)) =
-              subst (λ o. IsCmp (f x) (λ k. form_causes m r k i j (cmp_form x)) (Ok o)) w.in-Some.is c.in_ok-cmp.ensures in
+          subst (λ o. IsCmp (f x) (λ k. form_causes m r k i j (cmp_form x)) (Ok o)) w.in-Some.is c.in_ok-cmp.ensures in
           record {
             within = within;
             causes = λ k h. inv.causes k (ap (any_cmp (form_causes m r k i j)) e ∙ or_right _ _ h);
@@ -40,7 +40,7 @@ loop-cmp-preserved g c =
           }
       | in-None w ↦
           let h : IsCmp (f x) (λ k. form_causes m r k i j (cmp_form x)) (Ok None) =
-              subst (λ o. IsCmp (f x) (λ k. form_causes m r k i j (cmp_form x)) (Ok o)) w.in-None.is c.in_ok-cmp.ensures in
+          subst (λ o. IsCmp (f x) (λ k. form_causes m r k i j (cmp_form x)) (Ok o)) w.in-None.is c.in_ok-cmp.ensures in
           record {
             within = within;
             causes = λ k h. inv.causes k (ap (any_cmp (form_causes m r k i j)) e ∙ or_right _ _ h);

@@ -20,5 +20,5 @@ returns-in-Err g c =
     refused_is (g.M.VarMap.meaning c.args.map.now) (g.M.VarMap.refusals c.args.map.now) c.args.depths.index c.args.depths.tensor c.args.form.now
     c.in-Err.refusal
     (subst (λ x. AreReplacements (g.M.VarMap.meaning c.args.map.now) (g.M.VarMap.refusals c.args.map.now) c.args.depths.index c.args.depths.tensor x
-        (Err c.in-Err.refusal))
+    (Err c.in-Err.refusal))
     c.items.ensures.form c.in-Err.ensures)

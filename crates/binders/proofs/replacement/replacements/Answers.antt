@@ -25,7 +25,7 @@ loop-var-preserved g c =
             many = ap length e ∙ length-append c.loop-var.by (w.in-Ok.replacement ∷ []) ∙ ap (λ n. n + 1) c.loop-var.invariant.many;
             given = given_more c.loop-var.by c.if-form_uses.by w.in-Ok.replacement c.loop-var.var
                 ((g.M.VarMap.meaning c.args.map.now).for_index c.args.depths.index c.args.depths.tensor) c.args.form.now c.loop-var.invariant.many e
-                    c.loop-var.invariant.given (λ u. w.in-Ok.ensures.0);
+                c.loop-var.invariant.given (λ u. w.in-Ok.ensures.0);
           }
       | else-form_uses+in-Ok-literal+in_ok-push w ↦
           let e : c.if-form_uses.by ≡ c.loop-var.by ++ (w.in-Ok-literal.none ∷ []) = w.by-is ∙ w.in_ok-push.ensures.ok in
@@ -33,7 +33,7 @@ loop-var-preserved g c =
             many = ap length e ∙ length-append c.loop-var.by (w.in-Ok-literal.none ∷ []) ∙ ap (λ n. n + 1) c.loop-var.invariant.many;
             given = given_more c.loop-var.by c.if-form_uses.by w.in-Ok-literal.none c.loop-var.var
                 ((g.M.VarMap.meaning c.args.map.now).for_index c.args.depths.index c.args.depths.tensor) c.args.form.now c.loop-var.invariant.many e
-                    c.loop-var.invariant.given
+                c.loop-var.invariant.given
                 (λ u. absurd (let no = sym c.form_uses.ensures ∙ w.if-form_uses.false in cc));
           }
     ]
@@ -41,4 +41,4 @@ loop-var-preserved g c =
 pub returns : goal.returns
 returns g c = λ v u. c.loop-var.invariant.given v
     (let below : v < form_bound c.args.form.now = uses-below v c.args.form.now u in let e = c.form_bound-var-end.ensures.value in
-        omega (arith, below, e, c.loop-var-test.false)) u
+    omega (arith, below, e, c.loop-var-test.false)) u

@@ -16,7 +16,7 @@ loop-term-preserved c =
     let narrow : SFits w64 x.coefficient = search rules in
     let z = to_z-of_z w128 c.from.result wide ∙ c.from.ensures ∙ to_z-of_z w64 x.coefficient narrow in
     item-next c.as_slice-term-items.result.now c.loop-term.term-index x c.loop-term.terms c.into_terms.result c.append.new.self c.in_ok-item.item
-        (ap none_zero e ∙ c.requires) c.loop-term-test.true c.term-item.is
+    (ap none_zero e ∙ c.requires) c.loop-term-test.true c.term-item.is
     (c.loop-term.invariant ∙ ap (take c.loop-term.term-index) (sym e))
-        (c.in_ok-item.ensures {u = tt} ∙ (λ k. scaled (z k) (of_atom (c.in_ok-atom.ensures {u = tt} k)))) c.into_terms.ensures (c.in_ok-append.ensures {u = tt})
+    (c.in_ok-item.ensures {u = tt} ∙ (λ k. scaled (z k) (of_atom (c.in_ok-atom.ensures {u = tt} k)))) c.into_terms.ensures (c.in_ok-append.ensures {u = tt})
     ∙ ap (take (c.loop-term.term-index + 1)) e

@@ -16,5 +16,5 @@ single-requires c =
     let y = to_z-of_z w64 c.from-2.result wide-2 ∙ c.from-2.ensures in
     let a = c.in_ok-inside.ensures {u = tt} ∙ c.in_ok-copy_items.ensures {u = tt} in
     let h = (λ k. is_normal (single (x k) (Div (a k) c.args.divisor) (y k)))
-        ∙ quotient-times c.args.dividend.now c.args.divisor c.args.rest c.requires.normal c.requires.below in
+    ∙ quotient-times c.args.dividend.now c.args.divisor c.args.rest c.requires.normal c.requires.below in
     h

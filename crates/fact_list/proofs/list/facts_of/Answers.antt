@@ -41,7 +41,7 @@ returns-clause-is c =
       | else-loop-i-test w ↦ inl (omega (arith, w.loop-i-test.false, c.len.ensures))
     ] in
     c.shortened.ensures ∙ sym (followed-end c.args.facts.now list i c.loop-i.atoms c.loop-i.invariant.within c.loop-i.invariant.most done)
-        ∙ c.loop-i.invariant.rest
+    ∙ c.loop-i.invariant.rest
 
 pub returns-clause-few : goal.returns-clause-few
 returns-clause-few c = omega (arith, ap length c.shortened.ensures, take-few 2000 c.loop-i.list)

@@ -12,7 +12,7 @@ returns-then-not-step_scoped c =
     let p = c.fact-item.result in
     let d = c.loop-fact.depth in
     sym (ap (path_scoped s d) (drop-item ps i p c.loop-fact-test.true c.fact-item.is)
-        ∙ step-false s d p (drop (i + 1) ps) (sym c.step_scoped.ensures ∙ c.if-not-step_scoped.true))
+    ∙ step-false s d p (drop (i + 1) ps) (sym c.step_scoped.ensures ∙ c.if-not-step_scoped.true))
     ∙ c.loop-fact.invariant.rest
 
 pub loop-fact-preserved : goal.loop-fact-preserved
@@ -30,5 +30,10 @@ loop-fact-preserved c =
     }
 
 pub overflow_add-depth : goal.overflow_add-depth
-overflow_add-depth c = omega (arith, c.loop-fact.invariant.few, binder-few c.fact-item.result c.binder_count-depth.result (c.binder_count-depth.ensures []),
-    c.loop-fact-test.true, c.loop-fact.auto.fact-index-end)
+overflow_add-depth c = omega (
+  arith,
+  c.loop-fact.invariant.few,
+  binder-few c.fact-item.result c.binder_count-depth.result (c.binder_count-depth.ensures []),
+  c.loop-fact-test.true,
+  c.loop-fact.auto.fact-index-end,
+)

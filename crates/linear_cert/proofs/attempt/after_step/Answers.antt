@@ -15,20 +15,20 @@ returns-clause-is c =
     let s = c.args.step in
     let times = c.in_ok-times.ensures {u = tt} in
     let form = c.form_of.ensures.form ∙ ap (λ (x : Fact). cmp_form x.cmp) (sym c.index-facts-step.is)
-        ∙ sym (fact_form-at c.args.facts.now s.fact c.index-facts-step.result c.requires.step.within c.index-facts-step.is) in
+    ∙ sym (fact_form-at c.args.facts.now s.fact c.index-facts-step.result c.requires.step.within c.index-facts-step.is) in
     let fit = sym (c.multipliers_fit.ensures ∙ ap multipliers_fit c.as_slice.ensures) ∙ c.if-not-multipliers_fit.false in
     after-is c.args.facts.now c.args.attempt s c.in_ok-left.left c.form_of.result.now c.in_ok-times.times c.requires.step times (c.in_ok-left.ensures {u = tt})
-        form fit
+    form fit
 
 pub returns-clause-room : goal.returns-clause-room
 returns-clause-room c =
     let s = c.args.step in
     let times = c.in_ok-times.ensures {u = tt} in
     let form = c.form_of.ensures.form ∙ ap (λ (x : Fact). cmp_form x.cmp) (sym c.index-facts-step.is)
-        ∙ sym (fact_form-at c.args.facts.now s.fact c.index-facts-step.result c.requires.step.within c.index-facts-step.is) in
+    ∙ sym (fact_form-at c.args.facts.now s.fact c.index-facts-step.result c.requires.step.within c.index-facts-step.is) in
     let fit = sym (c.multipliers_fit.ensures ∙ ap multipliers_fit c.as_slice.ensures) ∙ c.if-not-multipliers_fit.false in
     λ n normal room. after-room c.args.facts.now n c.args.attempt s c.in_ok-left.left c.form_of.result.now c.in_ok-times.times c.requires.step times
-        (c.in_ok-left.ensures {u = tt}) form fit normal room
+    (c.in_ok-left.ensures {u = tt}) form fit normal room
 
 pub next_times-requires-clause-within : goal.next_times-requires-clause-within
 next_times-requires-clause-within c = omega (arith, c.requires.step.within, c.requires.room.each)

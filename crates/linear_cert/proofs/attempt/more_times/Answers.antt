@@ -23,7 +23,7 @@ loop-i-preserved c =
     let value : v ≡ (pos c.args.by *ℤ z) +ℤ pos (if eqb c.loop-i.i c.args.at then c.args.amount else 0) =
     c.next_time-time.ensures ∙ (λ k. (pos c.args.by *ℤ to_z-of_z w64 z wide k) +ℤ pos (c.only_at.ensures.is k)) in
     times-next c.args.by c.args.times.now c.loop-i.i c.args.at c.args.amount (pos 0) z v c.loop-i.more c.push.new.self c.loop-i-test.true refl value
-        c.loop-i.invariant (c.in_ok-push.ensures.ok ∙ (λ k. c.loop-i.more ++ to_z-of_z w64 v broad k ∷ []))
+    c.loop-i.invariant (c.in_ok-push.ensures.ok ∙ (λ k. c.loop-i.more ++ to_z-of_z w64 v broad k ∷ []))
 
 pub returns : goal.returns
 returns c = times-all c.args.by c.args.times.now c.loop-i.i c.args.at (pos c.args.amount) c.loop-i.more (omega (arith, c.loop-i-test.false)) c.loop-i.invariant

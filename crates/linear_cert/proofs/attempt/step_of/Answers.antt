@@ -15,7 +15,7 @@ needed-by-requires c =
     let t = c.get-item.result.now in
     let is : t ≡ get_or left.terms at t = c.get-item.ensures ∙ ap (λ ts. get_or ts at t) c.terms.ensures in
     divisor-is left at t c.atom.result.now c.chosen_factor-factor.result.now c.divisor_of-divisor.result c.requires.room.ordered c.in_ok-at.ensures.within is
-        c.atom.ensures c.chosen_factor-factor.ensures c.divisor_of-divisor.ensures
+    c.atom.ensures c.chosen_factor-factor.ensures c.divisor_of-divisor.ensures
 
 pub returns-then-by-attempt-gt-LARGEST : goal.returns-then-by-attempt-gt-LARGEST
 returns-then-by-attempt-gt-LARGEST c =
@@ -30,10 +30,10 @@ returns-then-by-attempt-gt-LARGEST c =
     let broad : SFits w128 c.coefficient-2.result = search rules in
     let is : t ≡ get_or a.left.terms at t = c.get-item.ensures ∙ ap (λ ts. get_or ts at t) c.terms.ensures in
     step-is facts a at t c.atom.result.now c.atom-2.result.now c.chosen_factor-factor.result.now c.coefficient.result c.coefficient-2.result
-        c.side_for-side.result c.in_ok-fact.fact k size by ((size * by) / k)
+    c.side_for-side.result c.in_ok-fact.fact k size by ((size * by) / k)
     c.in_ok-at.ensures.item c.in_ok-at.ensures.within is c.atom.ensures c.chosen_factor-factor.ensures c.coefficient.ensures
-        (c.side_for-side.ensures ∙ ap side_for (to_z-of_z w128 c.coefficient.result wide)) c.atom-2.ensures c.in_ok-fact.ensures c.divisor_of-divisor.ensures
-        c.coefficient-2.ensures (c.unsigned_abs-size.ensures.value ∙ ap unsigned_abs (to_z-of_z w128 c.coefficient-2.result broad)) c.needed-by.ensures.is refl
+    (c.side_for-side.ensures ∙ ap side_for (to_z-of_z w128 c.coefficient.result wide)) c.atom-2.ensures c.in_ok-fact.ensures c.divisor_of-divisor.ensures
+    c.coefficient-2.ensures (c.unsigned_abs-size.ensures.value ∙ ap unsigned_abs (to_z-of_z w128 c.coefficient-2.result broad)) c.needed-by.ensures.is refl
     ∙ limited-many (less_fact facts a by ((size * by) / k) c.in_ok-fact.fact) (omega (arith, c.if-by-attempt-gt-LARGEST.true))
 
 pub overflow_mul-amount : goal.overflow_mul-amount
@@ -47,7 +47,7 @@ overflow_mul-amount c =
     let size = c.unsigned_abs-size.ensures.value ∙ ap unsigned_abs (to_z-of_z w128 c.coefficient-2.result broad ∙ c.coefficient-2.ensures) in
     let small : c.unsigned_abs-size.result ≤ norm left = omega (arith, most, size) in
     let h = product-small c.args.attempt.now.goal_times (norm left) c.needed-by.result c.unsigned_abs-size.result c.requires.room.small small
-        (omega (arith, c.if-by-attempt-gt-LARGEST.false)) in
+    (omega (arith, c.if-by-attempt-gt-LARGEST.false)) in
     omega (arith, h, ap (λ n. c.unsigned_abs-size.result * n) c.from.ensures)
 
 pub returns-then-amount-from : goal.returns-then-amount-from
@@ -65,17 +65,20 @@ returns-then-amount-from c =
     let amount = (size * c.from.result) / c.from-2.result in
     let is : t ≡ get_or a.left.terms at t = c.get-item.ensures ∙ ap (λ ts. get_or ts at t) c.terms.ensures in
     let within : n < length a.times =
-        omega (arith, role-within (role_for c.side_for-side.result c.atom-2.result.now c.chosen_factor-factor.result.now) facts n c.in_ok-fact.ensures,
-        c.requires.room.each) in
+    omega (
+      arith,
+      role-within (role_for c.side_for-side.result c.atom-2.result.now c.chosen_factor-factor.result.now) facts n c.in_ok-fact.ensures,
+      c.requires.room.each,
+    ) in
     step-is facts a at t c.atom.result.now c.atom-2.result.now c.chosen_factor-factor.result.now c.coefficient.result c.coefficient-2.result
-        c.side_for-side.result n k size by amount
+    c.side_for-side.result n k size by amount
     c.in_ok-at.ensures.item c.in_ok-at.ensures.within is c.atom.ensures c.chosen_factor-factor.ensures c.coefficient.ensures
-        (c.side_for-side.ensures ∙ ap side_for (to_z-of_z w128 c.coefficient.result wide)) c.atom-2.ensures c.in_ok-fact.ensures c.divisor_of-divisor.ensures
-        c.coefficient-2.ensures (c.unsigned_abs-size.ensures.value ∙ ap unsigned_abs (to_z-of_z w128 c.coefficient-2.result broad)) c.needed-by.ensures.is
+    (c.side_for-side.ensures ∙ ap side_for (to_z-of_z w128 c.coefficient.result wide)) c.atom-2.ensures c.in_ok-fact.ensures c.divisor_of-divisor.ensures
+    c.coefficient-2.ensures (c.unsigned_abs-size.ensures.value ∙ ap unsigned_abs (to_z-of_z w128 c.coefficient-2.result broad)) c.needed-by.ensures.is
     (λ j. (size * c.from.ensures j) / c.from-2.ensures j)
     ∙ limited-unfit (less_fact facts a by amount n)
-        (amount-large a.times by a.goal_times n amount c.requires.room.above within (omega (arith, c.if-by-attempt-gt-LARGEST.false))
-        (omega (arith, c.if-amount-from.true, c.from-3.ensures)))
+    (amount-large a.times by a.goal_times n amount c.requires.room.above within (omega (arith, c.if-by-attempt-gt-LARGEST.false))
+    (omega (arith, c.if-amount-from.true, c.from-3.ensures)))
 
 pub returns : goal.returns
 returns c =
@@ -99,8 +102,8 @@ returns c =
       is = step-is facts a at t c.atom.result.now c.atom-2.result.now c.chosen_factor-factor.result.now c.coefficient.result c.coefficient-2.result
           c.side_for-side.result n k size by amount
           c.in_ok-at.ensures.item c.in_ok-at.ensures.within is c.atom.ensures c.chosen_factor-factor.ensures c.coefficient.ensures
-              (c.side_for-side.ensures ∙ ap side_for (to_z-of_z w128 c.coefficient.result wide)) c.atom-2.ensures c.in_ok-fact.ensures
-              c.divisor_of-divisor.ensures c.coefficient-2.ensures
-              (c.unsigned_abs-size.ensures.value ∙ ap unsigned_abs (to_z-of_z w128 c.coefficient-2.result broad)) c.needed-by.ensures.is
+          (c.side_for-side.ensures ∙ ap side_for (to_z-of_z w128 c.coefficient.result wide)) c.atom-2.ensures c.in_ok-fact.ensures
+          c.divisor_of-divisor.ensures c.coefficient-2.ensures
+          (c.unsigned_abs-size.ensures.value ∙ ap unsigned_abs (to_z-of_z w128 c.coefficient-2.result broad)) c.needed-by.ensures.is
           (λ j. (size * c.from.ensures j) / c.from-2.ensures j);
     }

@@ -16,7 +16,7 @@ returns-then-same_var-clause-item c =
     let within : i < length terms = omega (arith, c.loop-at.invariant.within, c.loop-at-test.true) in
     let is : x ≡ get_or terms i x = c.get.ensures ∙ ap (λ ts. get_or ts i x) c.terms-in-loop-at.ensures in
     let passes : test x ≡ true = sym (λ k. same_var ((c.atom_least.ensures ∙ ap atom_least c.atom.ensures) k) (c.form_least-least.ensures k))
-        ∙ sym c.same_var.ensures ∙ c.if-same_var.true in
+    ∙ sym c.same_var.ensures ∙ c.if-same_var.true in
     let turn : i + 1 ≡ c.loop-at.at = omega (arith, c.loop-at-test.true) in
     slice-at terms i x within is ∙ sym (last-found test terms i x within is passes) ∙ ap (λ n. find test (reverse (take n terms))) turn
-        ∙ c.loop-at.invariant.rest
+    ∙ c.loop-at.invariant.rest

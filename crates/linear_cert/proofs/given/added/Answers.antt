@@ -22,4 +22,4 @@ returns-clause-norm c =
     let z = to_z-of_z w128 c.from.result wide ∙ c.from.ensures ∙ to_z-of_z w64 c.args.multiplier c.ranges.multiplier in
     let p : c.in_ok-product.product ≡ scaled c.args.multiplier c.args.form = c.in_ok-product.ensures {u = tt} ∙ (λ k. scaled (z k) c.args.form) in
     more-norm c.args.total c.in_ok-product.product c.in_ok-more.more (c.in_ok-more.ensures {u = tt})
-        (times-norm c.args.multiplier c.args.form c.in_ok-product.product p h c.requires.small)
+    (times-norm c.args.multiplier c.args.form c.in_ok-product.product p h c.requires.small)

@@ -15,7 +15,7 @@ form_at-requires c = good-at c.args.facts.now c.args.goal.now c.args.lines.now c
 pub added-requires-clause-room : goal.added-requires-clause-room
 added-requires-clause-room c =
     few-room (length c.args.facts.now) (length c.args.lines.now) c.loop-i.i _ c.requires.few
-        (lines-few c.args.facts.now c.args.goal.now c.args.lines.now c.requires.good) c.loop-i-test.true c.loop-i.invariant.room
+    (lines-few c.args.facts.now c.args.goal.now c.args.lines.now c.requires.good) c.loop-i-test.true c.loop-i.invariant.room
 
 pub loop-i-preserved : goal.loop-i-preserved
 loop-i-preserved c =
@@ -28,5 +28,5 @@ loop-i-preserved c =
       rest = taken-next c.args.facts.now c.args.goal.now c.args.lines.now c.loop-i.i none c.loop-i.total c.in_ok-total-2.total c.in_ok-form.form
           c.loop-i-test.true
           (c.in_ok-total-2.ensures.form ∙ ap (λ (z : ℤ). sum_of c.loop-i.total (scaled z c.in_ok-form.form)) (to_z-of_z w64 line.multiplier wide))
-              c.in_ok-form.ensures.form ∙ c.loop-i.invariant.rest;
+          c.in_ok-form.ensures.form ∙ c.loop-i.invariant.rest;
     }

@@ -14,5 +14,5 @@ sum-requires c = negated-room c.args.goal.now c.in_ok-one.one c.in_ok-minus.minu
 pub returns-clause-small : goal.returns-clause-small
 returns-clause-small c = negated-norm c.args.goal.now c.in_ok-sum.field-0
     (c.in_ok-sum.ensures {u = tt}
-        ∙ (λ k. sum_of (c.in_ok-one.ensures {u = tt} k) ((c.in_ok-minus.ensures {u = tt} ∙ ap (scaled (negsuc 0)) c.in_ok-form.ensures.same) k)))
-        c.in_ok-form.ensures.normal
+    ∙ (λ k. sum_of (c.in_ok-one.ensures {u = tt} k) ((c.in_ok-minus.ensures {u = tt} ∙ ap (scaled (negsuc 0)) c.in_ok-form.ensures.same) k)))
+    c.in_ok-form.ensures.normal

@@ -16,7 +16,7 @@ set-requires c = omega (arith, c.requires.within, ap length (c.in_ok-times.ensur
 pub carried_on-requires-clause-room : goal.carried_on-requires-clause-room
 carried_on-requires-clause-room c =
     let times = c.set.ensures ∙ (λ k. slice_set (c.in_ok-times.ensures {u = tt} k) c.args.at (to_z-of_z w64 c.args.by c.ranges.by k))
-        ∙ set-once c.args.facts.now c.args.at c.args.by in
+    ∙ set-once c.args.facts.now c.args.at c.args.by in
     let left = c.in_ok-left.ensures {u = tt} ∙ ap (λ z. difference_of c.args.goal.now (scaled z c.args.form.now)) (to_z-of_z w64 c.args.by c.ranges.by) in
     subst (Room c.args.facts.now 0) (λ k. record { left = sym left k; goal_times = 1; times = sym times k })
     (with-room c.args.facts.now c.args.goal.now c.args.form.now c.args.at c.args.by c.told.ensures c.told-2.ensures c.requires.once)
@@ -24,7 +24,7 @@ carried_on-requires-clause-room c =
 pub returns : goal.returns
 returns c =
     let times = c.set.ensures ∙ (λ k. slice_set (c.in_ok-times.ensures {u = tt} k) c.args.at (to_z-of_z w64 c.args.by c.ranges.by k))
-        ∙ set-once c.args.facts.now c.args.at c.args.by in
+    ∙ set-once c.args.facts.now c.args.at c.args.by in
     let left = c.in_ok-left.ensures {u = tt} ∙ ap (λ z. difference_of c.args.goal.now (scaled z c.args.form.now)) (to_z-of_z w64 c.args.by c.ranges.by) in
     subst (λ (a : Attempt). IfOk c.carried_on.result (λ lines. lines ≡ carried_on 512 c.args.facts.now a))
-        (λ k. record { left = left k; goal_times = 1; times = times k }) c.carried_on.ensures
+    (λ k. record { left = left k; goal_times = 1; times = times k }) c.carried_on.ensures

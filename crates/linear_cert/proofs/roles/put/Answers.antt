@@ -12,7 +12,7 @@ returns-in-Ok c =
     let facts = c.args.facts.now in
     let r = wanted_role c.args.wanted in
     mapped-known facts c.args.places.items c.args.at _ r c.requires.within c.requires.role
-        (sym (ap (first_place facts r) c.as_slice.ensures.value) ∙ c.in-Ok.ensures.found) c.requires.mapped
+    (sym (ap (first_place facts r) c.as_slice.ensures.value) ∙ c.in-Ok.ensures.found) c.requires.mapped
 
 pub returns-in-Ok-insert : goal.returns-in-Ok-insert
 returns-in-Ok-insert c =
@@ -21,5 +21,5 @@ returns-in-Ok-insert c =
     let n = c.in-Err.n in
     let splits = subst (λ (ps : List ℕ). Splits (role_atom r) (keys facts ps) n) c.as_slice.ensures.value c.in-Err.ensures.splits in
     mapped-more facts c.args.places.items c.insert.new.self.items c.args.at n r c.requires.within c.requires.role
-        (sym (ap (first_place facts r) c.as_slice.ensures.value) ∙ c.in-Err.ensures.none)
+    (sym (ap (first_place facts r) c.as_slice.ensures.value) ∙ c.in-Err.ensures.none)
     splits c.requires.mapped c.in-Ok-insert.ensures.items

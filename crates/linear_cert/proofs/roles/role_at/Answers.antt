@@ -9,4 +9,4 @@ returns c =
     let x = c.index-facts-place_at.result in
     let is = c.index-facts-place_at.is in
     ap (λ (f : Fact). f.role) (sym is) ∙ role-is c.args.facts.now c.place_at.result x c.place_at.ensures.below is
-        ∙ ap (role_at c.args.facts.now) c.place_at.ensures.is
+    ∙ ap (role_at c.args.facts.now) c.place_at.ensures.is

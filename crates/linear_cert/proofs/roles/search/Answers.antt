@@ -18,5 +18,5 @@ pub returns-clause-none : goal.returns-clause-none
 returns-clause-none c =
     let r = wanted_role c.args.wanted in
     none-found c.args.facts.now r c.args.places.now c.place-at.result c.is_same.result c.requires.sorted c.place-at.ensures
-        (omega (arith, c.if-at-places.false))
+    (omega (arith, c.if-at-places.false))
     (c.is_same.ensures ∙ ap (λ x. is_eq (role_order x r)) c.role_at.ensures) c.if-is_same.false

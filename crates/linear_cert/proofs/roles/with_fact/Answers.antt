@@ -15,4 +15,4 @@ returns-in-None c =
     let x = c.index-facts-at.result in
     let is = c.index-facts-at.is in
     mapped-stated c.args.facts.now c.args.places.items c.args.at x c.requires.within is
-        (ap is_bound (ap (λ (f : Fact). f.role) is) ∙ c.in-None.ensures {u = tt}) c.requires.mapped
+    (ap is_bound (ap (λ (f : Fact). f.role) is) ∙ c.in-None.ensures {u = tt}) c.requires.mapped

@@ -17,7 +17,7 @@ pub walk_outputs-requires-clause-free : goal.walk_outputs-requires-clause-free
 walk_outputs-requires-clause-free c =
     let shapes : c.in_ok-input_shapes.field-0 ≡ input_shapes c.args.module.now = search rules in
     module_free c.args.module.now _
-        (inputs_in_scope c.args.module.now c.new.result c.new-2.result c.in_ok-input_shapes.field-0 c.new.ensures c.new-2.ensures shapes) c.requires.scoped
+    (inputs_in_scope c.args.module.now c.new.result c.new-2.result c.in_ok-input_shapes.field-0 c.new.ensures c.new-2.ensures shapes) c.requires.scoped
 
 pub returns-in_err-walk_outputs-clause-goals : goal.returns-in_err-walk_outputs-clause-goals
 returns-in_err-walk_outputs-clause-goals c =
@@ -28,7 +28,7 @@ returns-in_err-walk_outputs-clause-goals c =
     (inputs_in_scope c.args.module.now c.new.result c.new-2.result c.in_ok-input_shapes.field-0 c.new.ensures c.new-2.ensures shapes)
     (subst (All RankFits) c.as_slice-inputs.ensures ranks)
     (subst (λ (os : List OutputDecl). FailsFirst (scope (record { lets = c.new.result; inputs = c.in_ok-input_shapes.field-0 }) c.new-2.result) os
-        c.in_err-walk_outputs.field-0.0) c.as_slice.ensures c.in_err-walk_outputs.ensures.fault) in
+    c.in_err-walk_outputs.field-0.0) c.as_slice.ensures c.in_err-walk_outputs.ensures.fault) in
     search rules
 
 pub returns-clause-sound : goal.returns-clause-sound
@@ -40,7 +40,7 @@ returns-clause-sound c =
     let ranks : All RankFits c.as_slice-inputs.result.now = c.in_default.ensures in
     sound_by_goals m c.walk_outputs.new.progress.goals
     (goals_are m c.in_ok-input_goals.field-0 c.walk_outputs.new.progress.goals _ c.as_slice-inputs.result.now c.as_slice.result.now told.goals
-        (c.in_ok-input_goals.ensures {u = tt})
+    (c.in_ok-input_goals.ensures {u = tt})
     c.as_slice-inputs.ensures c.as_slice.ensures alone)
     c.requires.scoped (shapes_hold m _ c.as_slice-inputs.result.now c.as_slice.result.now c.as_slice-inputs.ensures c.as_slice.ensures alone ranks told.shaped)
 

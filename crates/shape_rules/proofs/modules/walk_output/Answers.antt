@@ -11,7 +11,7 @@ returns-in-Ok-clause-shaped c =
 pub returns-in-Ok-clause-goals : goal.returns-in-Ok-clause-goals
 returns-in-Ok-clause-goals c =
     walked_goals c.args.output.now.term (scope c.args.shapes.now c.args.progress.now.bound) c.args.progress.now.goals c.walk.new.progress.goals
-        c.in-Ok.ensures.goals
+    c.in-Ok.ensures.goals
 
 pub returns-clause-fault : goal.returns-clause-fault
 returns-clause-fault c =

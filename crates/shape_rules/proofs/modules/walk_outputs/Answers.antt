@@ -30,7 +30,7 @@ loop-i-preserved c =
           (c.args.progress.now.goals ++ outputs_goals c.args.outputs.now ts)
           c.loop-i-test.true c.index-outputs-i.is
           (subst (λ (bound : List Extents). c.walk_output.new.progress.goals ≡ c.loop-i.progress.goals ++ term_goals o.term (scope c.args.shapes.now bound))
-              c.loop-i.invariant.bound told.goals)
+          c.loop-i.invariant.bound told.goals)
           c.loop-i.invariant.goals;
       shaped = before_more (HasOne ts) c.args.outputs.now c.loop-i.i o c.loop-i-test.true c.index-outputs-i.is
           (subst (λ (bound : List Extents). HasOne (scope c.args.shapes.now bound) o) c.loop-i.invariant.bound told.shaped) c.loop-i.invariant.shaped;

@@ -16,4 +16,4 @@ returns-clause-shape c shape h =
     (c.in-Some.ensures ∙ ap (λ ns. c.in-Some.n ∷ ns) c.in-Some-take_first.ensures) h
     (c.with_first.ensures (product_of c.in-Some.n c.in-Some-take_first.m)
     (flat_form c.args.child c.in_ok-rest.rest c.in-Some.n c.in-Some-take_first.m _ c.mul.result (c.in_ok-rest.ensures {u = tt}).ok c.in-Some.ensures c.requires
-        c.mul.ensures.form))
+    c.mul.ensures.form))

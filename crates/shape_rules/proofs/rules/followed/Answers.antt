@@ -7,7 +7,7 @@ use Rattle.shape_rules.proofs.rules.followed.Goals as goal
 pub returns-in_err-first-clause-shape : goal.returns-in_err-first-clause-shape
 returns-in_err-first-clause-shape c a b h =
     let f : IsTrouble (with_child 0 a (λ ns. with_child 1 b (of_concat ns))) c.in_err-first.field-0.0 =
-        none_ruled a b of_concat c.args.operands c.in_err-first.field-0.0 (c.in_err-first.was {u = tt}) h in search rules
+    none_ruled a b of_concat c.args.operands c.in_err-first.field-0.0 (c.in_err-first.was {u = tt}) h in search rules
 
 pub returns-clause-shape : goal.returns-clause-shape
 returns-clause-shape c a b h =
@@ -16,5 +16,5 @@ returns-clause-shape c a b h =
     let e : length c.take_first.new.items ≡ length c.take_first-2.new.items = omega arith in
     let g : same_forms c.take_first.new.items c.take_first-2.new.items ≡ true = cc in
     both_ruled a b of_concat c.args.operands c.in_ok-first.field-0 _ _ c.with_first.result (c.in_ok-first.was {u = tt}) c.in-Some.ensures
-        c.in-Some-take_first.ensures h
+    c.in-Some-take_first.ensures h
     (concat_answer n m _ _ c.with_first.result e g (c.with_first.ensures _ c.add.ensures.form))

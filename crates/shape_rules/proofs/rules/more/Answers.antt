@@ -9,7 +9,7 @@ use Rattle.shape_rules.proofs.rules.more.Goals as goal
 pub returns-in_err-rest-clause-shape : goal.returns-in_err-rest-clause-shape
 returns-in_err-rest-clause-shape c shape h =
     let f : IsTrouble (with_child 0 shape (more_shape c.args.amount.now)) c.in_err-rest.field-0.0 =
-        c.in_err-rest.ensures.err shape (more_shape c.args.amount.now) h in search rules
+    c.in_err-rest.ensures.err shape (more_shape c.args.amount.now) h in search rules
 
 pub returns-in-Some-clause-shape : goal.returns-in-Some-clause-shape
 returns-in-Some-clause-shape c shape h =

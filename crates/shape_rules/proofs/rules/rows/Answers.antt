@@ -8,7 +8,7 @@ use Rattle.shape_rules.proofs.rules.rows.Goals as goal
 pub returns-in_err-rest-clause-shape : goal.returns-in_err-rest-clause-shape
 returns-in_err-rest-clause-shape c shape h =
     let f : IsTrouble (with_child 0 shape (rows_shape c.args.n.now)) c.in_err-rest.field-0.0 = c.in_err-rest.ensures.err shape (rows_shape c.args.n.now) h in
-        search rules
+    search rules
 
 pub returns-clause-shape : goal.returns-clause-shape
 returns-clause-shape c shape h =

@@ -7,4 +7,4 @@ use Rattle.shape_rules.proofs.rules.words.Goals as goal
 pub returns-in_err-first-clause-shape : goal.returns-in_err-first-clause-shape
 returns-in_err-first-clause-shape c a b h =
     let f : IsTrouble (with_child 0 a (λ ns. with_child 1 b (of_words ns))) c.in_err-first.field-0.0 =
-        none_ruled a b of_words c.args.operands c.in_err-first.field-0.0 (c.in_err-first.was {u = tt}) h in search rules
+    none_ruled a b of_words c.args.operands c.in_err-first.field-0.0 (c.in_err-first.was {u = tt}) h in search rules

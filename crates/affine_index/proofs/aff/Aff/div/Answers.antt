@@ -13,12 +13,12 @@ quotient-requires-clause-room c = one-room c.args.self.now c.in_ok-form.form c.i
 pub within_limits-requires : goal.within_limits-requires
 within_limits-requires c =
     ordered-quotient c.args.self.now c.in_ok-floor.floor c.args.divisor
-        (c.in_ok-floor.ensures {u = tt} ∙ ap (λ i. quotient_of i c.args.divisor) c.in_ok-form.ensures.same) c.requires.positive c.requires.limit
-        c.copied.ensures.normal
+    (c.in_ok-floor.ensures {u = tt} ∙ ap (λ i. quotient_of i c.args.divisor) c.in_ok-form.ensures.same) c.requires.positive c.requires.limit
+    c.copied.ensures.normal
 
 pub returns-clause-value : goal.returns-clause-value
 returns-clause-value c =
     op_value (λ r. (s v : List ℕ) → items_value s v r ≡ int_div_euclid (items_value s v c.args.self.now) (pos c.args.divisor)) c.within_limits.result
-        c.in_ok-floor.floor (quotient_of c.args.self.now c.args.divisor)
+    c.in_ok-floor.floor (quotient_of c.args.self.now c.args.divisor)
     (c.in_ok-floor.ensures {u = tt} ∙ ap (λ i. quotient_of i c.args.divisor) c.in_ok-form.ensures.same)
-        (λ s v. value-quotient s v c.args.self.now c.args.divisor c.requires.positive) c.within_limits.ensures
+    (λ s v. value-quotient s v c.args.self.now c.args.divisor c.requires.positive) c.within_limits.ensures

@@ -16,5 +16,5 @@ returns-clause-value c =
     let v = c.args.var in
     let by = c.args.by.now in
     if_ok (λ r. (s w : List ℕ) (n : ℕ) → v ≤ length w → items_value s w by ≡ pos n → items_value s w r ≡ items_value s (insert w v n) c.args.self.now)
-        c.put.result (put_var v by c.args.self.now)
+    c.put.result (put_var v by c.args.self.now)
     (λ s w n h e. value-put_var s w v by n c.args.self.now h e (normal-ordered c.args.self.now c.put.ensures.normal)) c.put.ensures.form

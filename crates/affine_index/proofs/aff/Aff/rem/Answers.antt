@@ -70,4 +70,4 @@ returns-clause-value c =
     let minus : c.in_ok-minus.minus ≡ scaled (negsuc 0) (scaled (pos k) (quotient_of i k)) = c.in_ok-minus.ensures {u = tt} ∙ ap (scaled (negsuc 0)) whole in
     let rest : c.in_ok-rest.rest ≡ remainder_of i k = c.in_ok-rest.ensures {u = tt} ∙ (λ j. sum_of (c.in_ok-form.ensures.same j) (minus j)) in
     op_value (λ r. (s v : List ℕ) → items_value s v r ≡ int_rem_euclid (items_value s v i) (pos k)) c.within_limits.result c.in_ok-rest.rest (remainder_of i k)
-        rest (λ s v. value-remainder s v i k c.requires.positive) c.within_limits.ensures
+    rest (λ s v. value-remainder s v i k c.requires.positive) c.within_limits.ensures

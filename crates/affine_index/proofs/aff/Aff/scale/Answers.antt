@@ -25,7 +25,7 @@ within_limits-requires c =
     let word : SFits w64 c.args.by = search rules in
     let e = to_z-of_z w128 c.from.result wide ∙ c.from.ensures ∙ to_z-of_z w64 c.args.by word in
     ordered-scaled c.args.by c.args.self.now c.in_ok-product.product (c.in_ok-product.ensures {u = tt} ∙ (λ k. scaled (e k) (c.in_ok-form.ensures.same k)))
-        c.copied.ensures.normal
+    c.copied.ensures.normal
 
 pub returns-clause-value : goal.returns-clause-value
 returns-clause-value c =
@@ -33,6 +33,6 @@ returns-clause-value c =
     let word : SFits w64 c.args.by = search rules in
     let e = to_z-of_z w128 c.from.result wide ∙ c.from.ensures ∙ to_z-of_z w64 c.args.by word in
     op_value (λ r. (s v : List ℕ) → items_value s v r ≡ c.args.by *ℤ items_value s v c.args.self.now) c.within_limits.result c.in_ok-product.product
-        (scaled c.args.by c.args.self.now)
+    (scaled c.args.by c.args.self.now)
     (c.in_ok-product.ensures {u = tt} ∙ (λ k. scaled (e k) (c.in_ok-form.ensures.same k))) (λ s v. value-scaled s v c.args.by c.args.self.now)
-        c.within_limits.ensures
+    c.within_limits.ensures

@@ -20,5 +20,5 @@ returns-clause-value c =
     let from = c.args.from in
     let by = c.args.by in
     if_ok (λ r. (s w : List ℕ) → from ≤ length w → items_value s w r ≡ items_value s (take from w ++ drop (from + by) w) c.args.self.now) c.put.result
-        (shifted from by c.args.self.now)
+    (shifted from by c.args.self.now)
     (λ s w h. value-shifted s w from by c.args.self.now h (normal-ordered c.args.self.now c.put.ensures.normal)) c.put.ensures.form

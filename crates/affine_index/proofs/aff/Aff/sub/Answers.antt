@@ -18,13 +18,13 @@ pub within_limits-requires : goal.within_limits-requires
 within_limits-requires c =
     ordered-difference c.args.self.now c.args.other.now c.in_ok-total.total
     (c.in_ok-total.ensures {u = tt}
-        ∙ (λ k. sum_of (c.in_ok-a.ensures.same k) ((c.in_ok-minus.ensures {u = tt} ∙ ap (scaled (negsuc 0)) (c.in_ok-b.ensures.same)) k)))
+    ∙ (λ k. sum_of (c.in_ok-a.ensures.same k) ((c.in_ok-minus.ensures {u = tt} ∙ ap (scaled (negsuc 0)) (c.in_ok-b.ensures.same)) k)))
     c.copied.ensures.normal c.copied-2.ensures.normal
 
 pub returns-clause-value : goal.returns-clause-value
 returns-clause-value c =
     op_value (λ r. (s v : List ℕ) → items_value s v r +ℤ items_value s v c.args.other.now ≡ items_value s v c.args.self.now) c.within_limits.result
-        c.in_ok-total.total (difference_of c.args.self.now c.args.other.now)
+    c.in_ok-total.total (difference_of c.args.self.now c.args.other.now)
     (c.in_ok-total.ensures {u = tt}
-        ∙ (λ k. sum_of (c.in_ok-a.ensures.same k) ((c.in_ok-minus.ensures {u = tt} ∙ ap (scaled (negsuc 0)) (c.in_ok-b.ensures.same)) k)))
+    ∙ (λ k. sum_of (c.in_ok-a.ensures.same k) ((c.in_ok-minus.ensures {u = tt} ∙ ap (scaled (negsuc 0)) (c.in_ok-b.ensures.same)) k)))
     (λ s v. value-difference s v c.args.self.now c.args.other.now) c.within_limits.ensures

@@ -7,9 +7,11 @@ pub loop-i-preserved : goal.loop-i-preserved
 loop-i-preserved c =
     let within : c.loop-i.i < length c.args.all.now = omega arith in
     let in_lengths : c.loop-i.i < length c.args.lengths.now = omega arith in
-    rw
-    (c.in_ok-put_length.ensures, c.loop-i.invariant,
-        lengths_more c.args.sizes c.args.all.now c.args.lengths.now c.loop-i.i (Input 0) c.index-lengths-i.result within in_lengths c.index-lengths-i.is)
+    rw (
+      c.in_ok-put_length.ensures,
+      c.loop-i.invariant,
+      lengths_more c.args.sizes c.args.all.now c.args.lengths.now c.loop-i.i (Input 0) c.index-lengths-i.result within in_lengths c.index-lengths-i.is,
+    )
     (simp append_assoc)
 
 pub returns : goal.returns
