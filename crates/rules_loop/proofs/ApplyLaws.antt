@@ -1,0 +1,103 @@
+-- What the call of a rule takes of what the rule makes.
+use Rattle.std.proofs.Common.{◌≡◌, zero, suc, List, [], ◌∷◌, sym, subst, arith, Bool, true, false}
+use Rattle.affine_index.specs.Normal.{is_normal, is_ordered}
+use Rattle.affine_index.specs.declared.form.Items.{Items}
+use Rattle.affine_index.proofs.ArithmeticLaws.{normal-ordered}
+use Rattle.term_tree.specs.Limits.{every_form}
+use Rattle.term_tree.specs.Syntax.{add, gen, index, sub, sum}
+use Rattle.term_tree.specs.declared.term.Term.{Term}
+use Rattle.term_tree.proofs.FormLaws.{every_form-weaker}
+use Rattle.path_focus.specs.Focus.{IsProper}
+use Rattle.path_focus.specs.Making.{one_of_rows}
+use Rattle.path_focus.specs.Outcome.{AllListed, IsOutcome, MadeListed, Makes, Meant, MeantKeeps, Unfit, Unlike, without_arguments}
+use Rattle.path_focus.specs.declared.place.Focus.{Focus}
+use Rattle.path_focus.specs.declared.outcome.Outcome.{Outcome}
+use Rattle.path_focus.specs.declared.outcome.Outcome.TheVariants.{NoPattern, WrongArgument, Made}
+use Rattle.path_focus.specs.declared.rule.Arg.{Arg}
+use Rattle.path_focus.proofs.FocusMeaning.{facts_listed}
+use Rattle.rules_loop.specs.Patterns.{on_add, on_either, on_gen, on_index, on_sum, provided}
+use Rattle.rules_loop.specs.Rules.{rule_of}
+use Rattle.rules_loop.specs.declared.rules.LoopRule.{LoopRule}
+use Rattle.rules_loop.specs.declared.rules.LoopRule.TheVariants.{Beta, SwapGen, SwapSum, SumGen, GenSum, SumIndex, SumAdd, AddSum, AddIndex}
+use Rattle.rules_loop.proofs.BetaLaw.{beta_keeps}
+use Rattle.rules_loop.proofs.IndexLaws.{add_index_keeps, sum_index_keeps}
+use Rattle.rules_loop.proofs.SumLaws.{add_sum_keeps, sum_add_keeps}
+use Rattle.rules_loop.proofs.SwapLaws.{gen_sum_keeps, sum_gen_keeps, swap_gen_keeps, swap_sum_keeps}
+
+-- the facts of its conditions may be listed
+abbrev MeantListed : Meant → Type 0
+MeantListed Unlike = Unit {0}
+MeantListed Unfit = Unit {0}
+MeantListed (Makes raw cs) = AllListed cs
+
+at_index : (t : Term) (f : Term → Items → Meant) → ((e : Term) (x : Items) → MeantListed (f e x)) → MeantListed (on_index t f)
+at_index (index e x) f h = h e x
+at_index _ f h = tt
+
+at_gen : (t : Term) (f : Items → Term → Meant) → ((n : Items) (e : Term) → MeantListed (f n e)) → MeantListed (on_gen t f)
+at_gen (gen n e) f h = h n e
+at_gen _ f h = tt
+
+at_sum : (t : Term) (f : Items → Term → Meant) → ((n : Items) (e : Term) → MeantListed (f n e)) → MeantListed (on_sum t f)
+at_sum (sum n e) f h = h n e
+at_sum _ f h = tt
+
+at_add : (t : Term) (f : Term → Term → Meant) → ((a b : Term) → MeantListed (f a b)) → MeantListed (on_add t f)
+at_add (add a b) f h = h a b
+at_add _ f h = tt
+
+at_either : (t : Term) (f g : Term → Term → Meant) → ((a b : Term) → MeantListed (f a b)) → ((a b : Term) → MeantListed (g a b)) → MeantListed (on_either t f g)
+at_either (add a b) f g h k = h a b
+at_either (sub a b) f g h k = k a b
+at_either _ f g h k = tt
+
+if_provided : (b : Bool) (m : Meant) → MeantListed m → MeantListed (provided b m)
+if_provided true m h = h
+if_provided false m h = tt
+
+with_none : (as' : List Arg) (m : Meant) → MeantListed m → MeantListed (without_arguments as' m)
+with_none [] m h = h
+with_none (a ∷ as') m h = tt
+
+no_conditions : AllListed []
+no_conditions k d h = absurd (omega (arith, h))
+
+listed : (f : Focus) → IsProper f → (rule : LoopRule) (as' : List Arg) → MeantListed (rule_of f rule as')
+listed f p Beta as' = at_index f.term _ (λ e x. at_gen e _ (λ n b. with_none as' _ (both n x)))
+  where
+    both : (n x : Items) → AllListed (one_of_rows f.facts n x)
+    both n x zero d h = facts_listed f p
+    both n x (suc zero) d h = facts_listed f p
+    both n x (suc (suc k)) d h = absurd (omega (arith, h))
+listed f p SwapGen as' = at_gen f.term _ (λ n e. at_gen e _ (λ m b. with_none as' _ no_conditions))
+listed f p SwapSum as' = at_sum f.term _ (λ n e. at_sum e _ (λ m b. with_none as' _ no_conditions))
+listed f p SumGen as' = at_sum f.term _ (λ n e. at_gen e _ (λ m b. with_none as' _ no_conditions))
+listed f p GenSum as' = at_gen f.term _ (λ n e. at_sum e _ (λ m b. with_none as' _ no_conditions))
+listed f p SumIndex as' = at_index f.term _ (λ e x. at_sum e _ (λ n b. with_none as' _ no_conditions))
+listed f p SumAdd as' = at_sum f.term _ (λ n e. at_add e _ (λ a b. with_none as' _ no_conditions))
+listed f p AddSum as' = at_add f.term _ (λ d e. at_sum d _ (λ n a. at_sum e _ (λ m b. if_provided _ _ (with_none as' _ no_conditions))))
+listed f p AddIndex as' = at_index f.term _ (λ e x. at_either e _ _ (λ a b. with_none as' _ no_conditions) (λ a b. with_none as' _ no_conditions))
+
+made_listed : (m : Meant) (o : Outcome) → MeantListed m → IsOutcome m o → MadeListed o
+made_listed m NoPattern l h = tt
+made_listed m WrongArgument l h = tt
+made_listed Unlike (Made w) l h = absurd h
+made_listed Unfit (Made w) l h = absurd h
+made_listed (Makes raw cs) (Made w) l h = subst AllListed (sym h.0) l
+
+pub rule_listed : (f : Focus) (rule : LoopRule) (as' : List Arg) (o : Outcome) → IsProper f → IsOutcome (rule_of f rule as') o → MadeListed o
+rule_listed f rule as' o p h = made_listed (rule_of f rule as') o (listed f p rule as') h
+
+kept : (f : Focus) (rule : LoopRule) (as' : List Arg) → IsProper f → every_form is_ordered f.term ≡ true → MeantKeeps f (rule_of f rule as')
+kept f Beta as' p o = beta_keeps f p o as'
+kept f SwapGen as' p o = swap_gen_keeps f p o as'
+kept f SwapSum as' p o = swap_sum_keeps f p o as'
+kept f SumGen as' p o = sum_gen_keeps f p o as'
+kept f GenSum as' p o = gen_sum_keeps f p o as'
+kept f SumIndex as' p o = sum_index_keeps f p o as'
+kept f SumAdd as' p o = sum_add_keeps f p o as'
+kept f AddSum as' p o = add_sum_keeps f p o as'
+kept f AddIndex as' p o = add_index_keeps f p o as'
+
+pub rule_keeps : (f : Focus) (rule : LoopRule) (as' : List Arg) → IsProper f → every_form is_normal f.term ≡ true → MeantKeeps f (rule_of f rule as')
+rule_keeps f rule as' p o = kept f rule as' p (every_form-weaker is_normal is_ordered normal-ordered f.term o)

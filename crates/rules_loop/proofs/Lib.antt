@@ -1,0 +1,12 @@
+pub mod ApplyLaws
+pub mod BetaLaw
+pub mod DraftLaws
+pub mod IndexLaws
+pub mod Parts
+pub mod PatternLaws
+pub mod ReachLaws
+pub mod Replacing
+pub mod RowLaws
+pub mod ShapeLaws
+pub mod SumLaws
+pub mod SwapLaws

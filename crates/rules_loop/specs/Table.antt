@@ -1,0 +1,56 @@
+-- The rules of gens and sums.
+use Rattle.std.specs.Prelude.{List, [], ◌∷◌}
+use Rattle.affine_index.specs.Form.{var_form}
+use Rattle.affine_index.specs.Put.{shifted}
+use Rattle.binders.specs.Maps.{mapped}
+use Rattle.binders.specs.PlainMaps.{put_index_map}
+use Rattle.path_focus.specs.Making.{one_of_rows, with_index}
+use Rattle.path_focus.specs.Outcome.{Makes, Meant, without_arguments}
+use Rattle.path_focus.specs.declared.place.Focus.{Focus}
+use Rattle.path_focus.specs.declared.rule.Arg.{Arg}
+use Rattle.rules_loop.specs.Patterns.{on_add, on_either, on_gen, on_index, on_sum, provided}
+use Rattle.term_tree.specs.Shape.{same_form}
+use Rattle.term_tree.specs.Syntax.{add, gen, index, sub, sum, transpose}
+use Rattle.term_tree.specs.declared.term.Term.{Term}
+
+-- a body with its two innermost variables swapped
+abbrev pub swapped : Term → Term
+swapped b = mapped (put_index_map (var_form 1 ∷ var_form 0 ∷ []) 2) 0 0 b
+
+-- (gen i < n. b)[x] becomes b with x for i, where 0 <= x < n
+abbrev pub beta : Focus → List Arg → Meant
+beta f as' = on_index f.term (λ e x. on_gen e (λ n b. without_arguments as' (Makes (with_index x b) (one_of_rows f.facts n x))))
+
+-- gen i < n. gen j < m. b becomes transpose(gen j < m. gen i < n. b)
+abbrev pub swap_gen : Focus → List Arg → Meant
+swap_gen f as' = on_gen f.term (λ n e. on_gen e (λ m b. without_arguments as' (Makes (transpose (gen m (gen n (swapped b)))) [])))
+
+-- sum i < n. sum j < m. b becomes sum j < m. sum i < n. b
+abbrev pub swap_sum : Focus → List Arg → Meant
+swap_sum f as' = on_sum f.term (λ n e. on_sum e (λ m b. without_arguments as' (Makes (sum m (sum n (swapped b))) [])))
+
+-- sum i < n. gen j < m. b becomes gen j < m. sum i < n. b
+abbrev pub sum_gen : Focus → List Arg → Meant
+sum_gen f as' = on_sum f.term (λ n e. on_gen e (λ m b. without_arguments as' (Makes (gen m (sum n (swapped b))) [])))
+
+-- gen j < m. sum i < n. b becomes sum i < n. gen j < m. b
+abbrev pub gen_sum : Focus → List Arg → Meant
+gen_sum f as' = on_gen f.term (λ m e. on_sum e (λ n b. without_arguments as' (Makes (sum n (gen m (swapped b))) [])))
+
+-- (sum i < n. b)[x] becomes sum i < n. b[x]
+abbrev pub sum_index : Focus → List Arg → Meant
+sum_index f as' = on_index f.term (λ e x. on_sum e (λ n b. without_arguments as' (Makes (sum n (index b (shifted 0 1 x))) [])))
+
+-- sum i < n. a + b becomes (sum i < n. a) + (sum i < n. b)
+abbrev pub sum_add : Focus → List Arg → Meant
+sum_add f as' = on_sum f.term (λ n e. on_add e (λ a b. without_arguments as' (Makes (add (sum n a) (sum n b)) [])))
+
+-- (sum i < n. a) + (sum i < n. b) becomes sum i < n. a + b
+abbrev pub add_sum : Focus → List Arg → Meant
+add_sum f as' = on_add f.term (λ d e. on_sum d (λ n a. on_sum e (λ m b. provided (same_form n m) (without_arguments as' (Makes (sum n (add a b)) [])))))
+
+-- (a + b)[x] becomes a[x] + b[x], and so with a difference
+abbrev pub add_index : Focus → List Arg → Meant
+add_index f as' = on_index f.term (λ e x. on_either e
+    (λ a b. without_arguments as' (Makes (add (index a x) (index b x)) []))
+    (λ a b. without_arguments as' (Makes (sub (index a x) (index b x)) [])))

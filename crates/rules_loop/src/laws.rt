@@ -1,0 +1,49 @@
+//! What each rule owes, as the contracts of functions that do nothing.
+
+ghost use Rattle.path_focus.specs.Outcome.{RuleKeeps};
+ghost use Rattle.rules_loop.specs.Table as table;
+
+/// A gen at an index that is shown to be one of its rows is its body there.
+pub fn beta_keeps()
+    ensures { RuleKeeps table.beta }
+{}
+
+/// Two gens in the other order are the columns.
+pub fn swap_gen_keeps()
+    ensures { RuleKeeps table.swap_gen }
+{}
+
+/// Two sums may be taken in either order.
+pub fn swap_sum_keeps()
+    ensures { RuleKeeps table.swap_sum }
+{}
+
+/// A sum of gens is the gen of the sums.
+pub fn sum_gen_keeps()
+    ensures { RuleKeeps table.sum_gen }
+{}
+
+/// A gen of sums is the sum of the gens.
+pub fn gen_sum_keeps()
+    ensures { RuleKeeps table.gen_sum }
+{}
+
+/// A row of a sum is the sum of the rows.
+pub fn sum_index_keeps()
+    ensures { RuleKeeps table.sum_index }
+{}
+
+/// A sum of sums is the sum of both.
+pub fn sum_add_keeps()
+    ensures { RuleKeeps table.sum_add }
+{}
+
+/// Two sums are one sum.
+pub fn add_sum_keeps()
+    ensures { RuleKeeps table.add_sum }
+{}
+
+/// A row of a sum or a difference is that of the rows.
+pub fn add_index_keeps()
+    ensures { RuleKeeps table.add_index }
+{}

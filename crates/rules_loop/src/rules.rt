@@ -1,0 +1,87 @@
+//! The call of a rule.
+
+ghost use Rattle.std.specs.Prelude.{◌≡◌, IfOk};
+ghost use Rattle.path_focus.specs.Focus.{IsProper, KeepsMeaning, KeepsShape};
+ghost use Rattle.path_focus.specs.Outcome.{Answers, IsOutcome, answer, conditions_of};
+ghost use Rattle.rules_loop.specs.Rules.{IsConditions, rule_of};
+
+use crate::rows::beta;
+use crate::sums::{add_index, add_sum, sum_add, sum_index};
+use crate::swaps::{gen_sum, sum_gen, swap_gen, swap_sum};
+use fact_list::CertRefusal;
+use linear_cert::Lines;
+use path_focus::{Arg, Condition, Focus, Outcome, RuleFault, finish};
+use sqlite_items::{Boxed, Items};
+use std::alloc::Global;
+use term_tree::{Term, told};
+
+/// The rules of gens and sums that are built.
+#[derive(Clone, Copy, Debug, PartialEq, Eq)]
+pub enum LoopRule {
+    Beta,
+    SwapGen,
+    SwapSum,
+    SumGen,
+    GenSum,
+    SumIndex,
+    SumAdd,
+    AddSum,
+    AddIndex,
+}
+
+fn outcome(
+    alloc: Global,
+    focus: &Focus,
+    rule: LoopRule,
+    args: &[Arg],
+) -> Result<Outcome, CertRefusal>
+    requires { IsProper focus.now }
+    ensures { IfOk result (IsOutcome (rule_of focus.now rule args.now)) }
+{
+    match rule {
+        LoopRule::Beta => beta(alloc, focus, args),
+        LoopRule::SwapGen => swap_gen(alloc, focus, args),
+        LoopRule::SwapSum => swap_sum(alloc, focus, args),
+        LoopRule::SumGen => sum_gen(alloc, focus, args),
+        LoopRule::GenSum => gen_sum(alloc, focus, args),
+        LoopRule::SumIndex => sum_index(alloc, focus, args),
+        LoopRule::SumAdd => sum_add(alloc, focus, args),
+        LoopRule::AddSum => add_sum(alloc, focus, args),
+        LoopRule::AddIndex => add_index(alloc, focus, args),
+    }
+}
+
+/// The term with the rule applied, or the first fault.
+pub fn apply(
+    alloc: Global,
+    focus: &Focus,
+    rule: LoopRule,
+    args: &[Arg],
+    lines: &[Lines],
+) -> Result<Boxed<Term>, RuleFault>
+    requires { IsProper focus.now }
+    ensures table { Answers (answer (rule_of focus.now rule args.now) lines.now) result }
+    ensures keeps { IfOk result (λ e. KeepsMeaning focus.now e × KeepsShape focus.now e) }
+{
+    told(focus.term.get());
+    match outcome(alloc, focus, rule, args) {
+        Ok(outcome) => finish(alloc, outcome, lines),
+        Err(_) => Err(RuleFault::Memory),
+    }
+}
+
+/// The conditions of the rule in order, each with its facts, or that pattern or arguments do not fit.
+pub fn conditions(
+    alloc: Global,
+    focus: &Focus,
+    rule: LoopRule,
+    args: &[Arg],
+) -> Result<Items<Condition>, RuleFault>
+    requires { IsProper focus.now }
+    ensures { IsConditions (conditions_of (rule_of focus.now rule args.now)) result }
+{
+    match outcome(alloc, focus, rule, args) {
+        Ok(outcome) => path_focus::conditions(outcome),
+        Err(_) => Err(RuleFault::Memory),
+    }
+}
