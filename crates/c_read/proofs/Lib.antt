@@ -13,3 +13,4 @@ pub mod WholeText
 pub mod Alone
 pub mod Formed
 mod Rows
+pub mod Numerals

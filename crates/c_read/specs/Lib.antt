@@ -7,3 +7,4 @@ pub mod Statements
 pub mod Units
 pub mod Refused
 pub mod Alone
+pub mod Scopes

@@ -1,5 +1,5 @@
 -- What readers of C are put together from.
-use Rattle.std.specs.Prelude.{ℕ, zero, suc, ◌+◌, Bool, if◌then◌else◌, List, [], ◌∷◌, length, Option, Some, None, Result, Ok, Err}
+use Rattle.std.specs.Prelude.{ℕ, zero, suc, ◌+◌, Bool, if◌then◌else◌, List, [], ◌∷◌, length, Option, Some, None, Result, Ok, Err, decimal}
 use Rattle.std.specs.Str.{bytes_eq}
 use Rattle.text_tokens.specs.declared.kind.Kind.{Kind}
 use Rattle.text_tokens.specs.Kinds.{Text}
@@ -47,3 +47,7 @@ until_by goes turn final (suc n) = λ a i. if goes (peek i) then (turn a >>= unt
 -- with as many steps as there are words
 abbrev pub until : {A B : Type 0} → (Word → Bool) → (A → Parser A) → (A → Parser B) → A → Parser B
 until goes turn final = λ a i. until_by goes turn final (length i.words + 1) a i
+
+-- this is how the number is printed
+abbrev pub is_printed : Text → ℕ → Bool
+is_printed t n = bytes_eq t (decimal n)

@@ -2,3 +2,6 @@
 #![tactic(auto)]
 
 pub mod laws;
+pub mod names;
+pub mod scope;
+pub mod words;
