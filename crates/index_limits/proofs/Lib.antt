@@ -1,0 +1,10 @@
+pub mod CountLaws
+pub mod FillLaws
+pub mod LeafLaws
+pub mod MagnitudeLaws
+pub mod NodeLaws
+pub mod OutputLaws
+pub mod ReadLaws
+pub mod ScopeLaws
+pub mod TextLaws
+pub mod WordLaws
