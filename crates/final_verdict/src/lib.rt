@@ -1,0 +1,7 @@
+//! Whether a module may be lowered.
+#![tactic(auto)]
+
+mod copying;
+mod verdict;
+
+pub use verdict::judge;
