@@ -49,7 +49,7 @@ flat : IsFlat doubled
 unfolding doubled inner twice
 flat = record {
   some = omega arith;
-  lengths = (record { levels = omega arith; height = omega arith }, (record { levels = omega arith; height = omega arith }, tt));
+  lengths = (record { levels = omega arith; longest = omega arith }, (record { levels = omega arith; longest = omega arith }, tt));
   body = stmt.Zero (Output 0) (Lit (pos 0)) (Size 0) ∷ stmt.For (Size 0) false (stmt.Seq (inner ∷ [])) ∷ [];
   is_body = refl;
   body_flat = (
@@ -61,8 +61,8 @@ flat = record {
             (pos 0);
         count = Size 0;
         is = refl;
-        place_within = record { levels = omega arith; height = omega arith };
-        count_within = record { levels = omega arith; height = omega arith };
+        place_within = record { levels = omega arith; longest = omega arith };
+        count_within = record { levels = omega arith; longest = omega arith };
       },
     ),
     (
@@ -74,7 +74,7 @@ flat = record {
           body = inner ∷ [];
           is = refl;
           deep = omega arith;
-          bound_within = record { levels = omega arith; height = omega arith };
+          bound_within = record { levels = omega arith; longest = omega arith };
           body_flat = (
             (
               Put,
@@ -83,7 +83,7 @@ flat = record {
                 place = Loop 0;
                 word = twice;
                 is = refl;
-                place_within = record { levels = omega arith; height = omega arith };
+                place_within = record { levels = omega arith; longest = omega arith };
                 word_within = record { levels = omega arith; height = omega arith; literals = (tt, omega arith) };
               },
             ),

@@ -37,7 +37,7 @@ module _ (p : Prog) where
   either-is false inside = refl
 
   place-fits : (i : Iexp) (d l : ℕ) → index_formed p.sizes false i d ≡ true → IndexWithin i l → Below (suc l) (IndexFits (here p d) i Choice)
-  place-fits i d l f h = index-fits (here p d) i Choice l f h.levels h.height
+  place-fits i d l f h = index-fits (here p d) i Choice l f h.levels h.longest
 
   OneFits : ℕ → Type 0
   OneFits l = (d : ℕ) (inside : Bool) (s : Stmt) → Flat (suc l) s → stmt_formed p s d inside ≡ true → StatementFits (suc l) (here p d) inside s
@@ -83,7 +83,7 @@ module _ (p : Prog) where
         body = h.body;
         is = h.is;
         deep = omega arith;
-        tests_fit = tests-fit p d h.tests l a.0 h.tests_within.levels h.tests_within.height;
+        tests_fit = tests-fit p d h.tests l a.0 h.tests_within.levels h.tests_within.longest;
         body_fits = each-fits l one d inside h.body h.body_flat (sym (seq-formed h.body d inside) ∙ a.1);
       }
   form-fits l one d inside Put s h f =
@@ -140,7 +140,7 @@ module _ (p : Prog) where
   lengths-fit (b ∷ bs) [] e f h = absurd (omega (arith, e))
   lengths-fit (b ∷ bs) (n ∷ ns) e f h =
       let g = and_parts (index_formed p.sizes true n 0) (lengths_formed p.sizes ns) f in
-      (index-fits (length_scope p.sizes) n Choice 999 g.0 h.0.levels h.0.height, lengths-fit bs ns (omega (arith, e)) g.1 h.1)
+      (index-fits (length_scope p.sizes) n Choice 999 g.0 h.0.levels h.0.longest, lengths-fit bs ns (omega (arith, e)) g.1 h.1)
 
   many : (make : ℕ → Buf) (a n : ℕ) → length (map make (range_with_len a n)) ≡ n
   many make a zero = refl

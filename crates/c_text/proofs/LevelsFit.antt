@@ -15,7 +15,7 @@ use Rattle.c_print.specs.declared.level.Level.{Level}
 use Rattle.c_print.specs.declared.level.Level.TheVariants.{Choice, Sum, Product, Part}
 use Rattle.c_print.specs.Level.{is_looser}
 use Rattle.c_text.specs.Expression.{HasBuffer, Scope}
-use Rattle.c_text.specs.Levels.{LiteralsFit, index_height, index_levels, most, one_if, tests_height, tests_levels, word_height, word_levels}
+use Rattle.c_text.specs.Levels.{LiteralsFit, index_levels, index_longest, most, one_if, tests_levels, tests_longest, word_height, word_levels}
 use Rattle.c_text.specs.Printable.{Below, EachTestFits, Enclosed, IndexFits, TestsFit, WordFits, in_products, in_sums, index_chain, word_chain}
 
 pub most-parts : (a b l : ℕ) → most a b ≤ l → (a ≤ l) × (b ≤ l)
@@ -55,76 +55,66 @@ in_products-most Sum n = omega arith
 in_products-most Product n = omega arith
 in_products-most Part n = omega arith
 
--- a chain is no longer than its expression is deep
-chain-height : (t : Iexp) (place : Level) → index_chain place t ≤ index_height t
-chain-height (Lit n) place = omega arith
-chain-height (Size n) place = omega arith
-chain-height (Loop n) place = omega arith
-chain-height (index_sum a b) place = let m = most-parts (index_height a) (index_height b) (most (index_height a) (index_height b)) (omega arith) in omega
-    (arith, in_sums-most place (index_chain Sum a + 1), chain-height a Sum, m.0)
-chain-height (index_difference a b) place = let m = most-parts (index_height a) (index_height b) (most (index_height a) (index_height b))
-    (omega arith) in omega (arith, in_sums-most place (index_chain Sum a + 1), chain-height a Sum, m.0)
-chain-height (index_product a b) place = let m = most-parts (index_height a) (index_height b) (most (index_height a) (index_height b)) (omega arith) in omega
-    (arith, in_products-most place (index_chain Product a + 1), chain-height a Product, m.0)
-chain-height (index_quotient a n) place = omega (arith, in_products-most place (index_chain Product a + 1), chain-height a Product)
-chain-height (index_remainder a n) place = omega (arith, in_products-most place (index_chain Product a + 1), chain-height a Product)
-chain-height (index_larger a b) place = omega arith
-
 -- the levels of a well formed index are enough for it
 module _ (scope : Scope) where
   pub index-fits : (t : Iexp) (place : Level) (l : ℕ) → index_formed scope.sizes scope.in_length t scope.loops ≡ true → index_levels t place ≤ l
-      → index_height t ≤ 1000 → IndexFits scope t place l
+      → index_longest t ≤ 1000 → IndexFits scope t place l
   index-fits (Lit n) place l f h d = (f, omega (arith, h))
   index-fits (Size n) place l f h d = under-test n scope.sizes f
   index-fits (Loop n) place l f h d = under-test n scope.loops f
   index-fits (index_sum a b) place l f h d =
       let g = and_parts (index_formed scope.sizes scope.in_length a scope.loops) (index_formed scope.sizes scope.in_length b scope.loops) f in
-      let e = most-parts (index_height a) (index_height b) 999 (omega (arith, d)) in
+      let u = most-parts (index_chain Sum a + 1) (most (index_longest a) (index_longest b)) 1000 d in
+      let e = most-parts (index_longest a) (index_longest b) 1000 u.1 in
       enclosed-from (is_looser Sum place) _ (most (index_levels a Sum) (index_levels b Product + 1)) l h (λ m k.
       let c = most-parts (index_levels a Sum) (index_levels b Product + 1) m k in (
-        index-fits a Sum m g.0 c.0 (omega (arith, e.0)),
+        index-fits a Sum m g.0 c.0 e.0,
         below-from _ (index_levels b Product) m c.1
-            (λ r j. index-fits b Product r g.1 j (omega (arith, e.1))),
-        omega (arith, chain-height a Sum, e.0),
+            (λ r j. index-fits b Product r g.1 j e.1),
+        omega (arith, u.0),
       ))
   index-fits (index_difference a b) place l f h d =
       let g = and_parts (index_formed scope.sizes scope.in_length a scope.loops) (index_formed scope.sizes scope.in_length b scope.loops) f in
-      let e = most-parts (index_height a) (index_height b) 999 (omega (arith, d)) in
+      let u = most-parts (index_chain Sum a + 1) (most (index_longest a) (index_longest b)) 1000 d in
+      let e = most-parts (index_longest a) (index_longest b) 1000 u.1 in
       enclosed-from (is_looser Sum place) _ (most (index_levels a Sum) (index_levels b Product + 1)) l h (λ m k.
       let c = most-parts (index_levels a Sum) (index_levels b Product + 1) m k in (
-        index-fits a Sum m g.0 c.0 (omega (arith, e.0)),
+        index-fits a Sum m g.0 c.0 e.0,
         below-from _ (index_levels b Product) m c.1
-            (λ r j. index-fits b Product r g.1 j (omega (arith, e.1))),
-        omega (arith, chain-height a Sum, e.0),
+            (λ r j. index-fits b Product r g.1 j e.1),
+        omega (arith, u.0),
       ))
   index-fits (index_product a b) place l f h d =
       let g = and_parts (index_formed scope.sizes scope.in_length a scope.loops) (index_formed scope.sizes scope.in_length b scope.loops) f in
-      let e = most-parts (index_height a) (index_height b) 999 (omega (arith, d)) in
+      let u = most-parts (index_chain Product a + 1) (most (index_longest a) (index_longest b)) 1000 d in
+      let e = most-parts (index_longest a) (index_longest b) 1000 u.1 in
       enclosed-from (is_looser Product place) _ (most (index_levels a Product) (index_levels b Part + 1)) l h (λ m k.
       let c = most-parts (index_levels a Product) (index_levels b Part + 1) m k in (
-        index-fits a Product m g.0 c.0 (omega (arith, e.0)),
+        index-fits a Product m g.0 c.0 e.0,
         below-from _ (index_levels b Part) m c.1
-            (λ r j. index-fits b Part r g.1 j (omega (arith, e.1))),
-        omega (arith, chain-height a Product, e.0),
+            (λ r j. index-fits b Part r g.1 j e.1),
+        omega (arith, u.0),
       ))
   index-fits (index_quotient a n) place l f h d =
       let g = and_parts (index_formed scope.sizes scope.in_length a scope.loops) (is_divisor n) f in
+      let u = most-parts (index_chain Product a + 1) (index_longest a) 1000 d in
       enclosed-from (is_looser Product place) _ (most (index_levels a Product) 2) l h (λ m k.
       let c = most-parts (index_levels a Product) 2 m k in
-      (index-fits a Product m g.0 c.0 (omega (arith, d)), below-from _ 1 m c.1 (λ r j. j), g.1, omega (arith, chain-height a Product, d)))
+      (index-fits a Product m g.0 c.0 u.1, below-from _ 1 m c.1 (λ r j. j), g.1, omega (arith, u.0)))
   index-fits (index_remainder a n) place l f h d =
       let g = and_parts (index_formed scope.sizes scope.in_length a scope.loops) (is_divisor n) f in
+      let u = most-parts (index_chain Product a + 1) (index_longest a) 1000 d in
       enclosed-from (is_looser Product place) _ (most (index_levels a Product) 2) l h (λ m k.
       let c = most-parts (index_levels a Product) 2 m k in
-      (index-fits a Product m g.0 c.0 (omega (arith, d)), below-from _ 1 m c.1 (λ r j. j), g.1, omega (arith, chain-height a Product, d)))
+      (index-fits a Product m g.0 c.0 u.1, below-from _ 1 m c.1 (λ r j. j), g.1, omega (arith, u.0)))
   index-fits (index_larger a b) place l f h d =
       let g = and_parts scope.in_length (index_formed scope.sizes scope.in_length a scope.loops && index_formed scope.sizes scope.in_length b scope.loops) f in
       let i = and_parts (index_formed scope.sizes scope.in_length a scope.loops) (index_formed scope.sizes scope.in_length b scope.loops) g.1 in
-      let e = most-parts (index_height a) (index_height b) 999 (omega (arith, d)) in (
+      let e = most-parts (index_longest a) (index_longest b) 1000 d in (
         g.0,
         below-from _ (most (index_levels a Choice) (index_levels b Choice)) l h (λ m k.
             let c = most-parts (index_levels a Choice) (index_levels b Choice) m k in
-            (index-fits a Choice m i.0 c.0 (omega (arith, e.0)), index-fits b Choice m i.1 c.1 (omega (arith, e.1)))),
+            (index-fits a Choice m i.0 c.0 e.0, index-fits b Choice m i.1 c.1 e.1)),
       )
 
 word-height : (w : Wexp) (place : Level) → word_chain place w ≤ word_height w
@@ -149,18 +139,18 @@ module _ (p : Prog) (depth : ℕ) where
   buffer-is (Output n) h = under-test n p.outputs h
   buffer-is (Scratch n) h = under-test n p.scratch h
 
-  each-fits : (cs : List Test) (l : ℕ) → each_test_formed p.sizes cs depth ≡ true → tests_levels cs ≤ l → tests_height cs ≤ 1000 → EachTestFits here cs l
+  each-fits : (cs : List Test) (l : ℕ) → each_test_formed p.sizes cs depth ≡ true → tests_levels cs ≤ l → tests_longest cs ≤ 1000 → EachTestFits here cs l
   each-fits [] l f h d = tt
   each-fits (c ∷ cs) l f h d =
       let g = and_parts (index_formed p.sizes false c.left depth) (index_formed p.sizes false c.right depth && each_test_formed p.sizes cs depth) f in
       let i = and_parts (index_formed p.sizes false c.right depth) (each_test_formed p.sizes cs depth) g.1 in
       let k = most-parts (most (index_levels c.left Sum) (index_levels c.right Sum)) (tests_levels cs) l h in
       let m = most-parts (index_levels c.left Sum) (index_levels c.right Sum) l k.0 in
-      let e = most-parts (most (index_height c.left) (index_height c.right)) (tests_height cs) 1000 d in
-      let n = most-parts (index_height c.left) (index_height c.right) 1000 e.0 in
+      let e = most-parts (most (index_longest c.left) (index_longest c.right)) (tests_longest cs) 1000 d in
+      let n = most-parts (index_longest c.left) (index_longest c.right) 1000 e.0 in
       ((index-fits here c.left Sum l g.0 m.0 n.0, index-fits here c.right Sum l i.0 m.1 n.1), each-fits cs l i.1 k.1 e.1)
 
-  pub tests-fit : (cs : List Test) (l : ℕ) → tests_formed p.sizes cs depth ≡ true → tests_levels cs ≤ l → tests_height cs ≤ 1000 → TestsFit here cs l
+  pub tests-fit : (cs : List Test) (l : ℕ) → tests_formed p.sizes cs depth ≡ true → tests_levels cs ≤ l → tests_longest cs ≤ 1000 → TestsFit here cs l
   tests-fit [] l f h d = absurd (cc)
   tests-fit (c ∷ cs) l f h d = (omega arith, each-fits (c ∷ cs) l f h d)
 
@@ -205,7 +195,7 @@ module _ (p : Prog) (depth : ℕ) where
   word-fits (word_choice cs a b) place l f h d w =
       let g = and_parts (tests_formed p.sizes cs depth) (word_formed p a depth && word_formed p b depth) f in
       let i = and_parts (word_formed p a depth) (word_formed p b depth) g.1 in
-      let e = most-parts (tests_height cs) (most (word_height a) (word_height b) + 1) 1000 d in
+      let e = most-parts (tests_longest cs) (most (word_height a) (word_height b) + 1) 1000 d in
       let n = most-parts (word_height a) (word_height b) 999 (omega (arith, e.1)) in
       enclosed-from (is_looser Choice place) _ (most (tests_levels cs) (most (word_levels a Choice) (word_levels b Choice) + 1)) l h (λ m k.
       let c = most-parts (tests_levels cs) (most (word_levels a Choice) (word_levels b Choice) + 1) m k in (

@@ -8,18 +8,18 @@ use Rattle.loop_lang.specs.declared.stmt.Stmt.{Stmt}
 use Rattle.loop_lang.specs.declared.stmt.Stmt.TheVariants as stmt
 use Rattle.loop_lang.specs.declared.stmt.Prog.{Prog}
 use Rattle.c_print.specs.declared.level.Level.TheVariants.{Choice}
-use Rattle.c_text.specs.Levels.{LiteralsFit, index_height, index_levels, tests_height, tests_levels, word_height, word_levels}
+use Rattle.c_text.specs.Levels.{LiteralsFit, index_levels, index_longest, tests_levels, tests_longest, word_height, word_levels}
 use Rattle.c_text.specs.Printable.{All}
 use Rattle.c_text.specs.Statement.{AddTo, Fill, Guarded, Loop, Put, StatementForm}
 
 -- an index within so many levels
 pub record IndexWithin (i : Iexp) (l : ℕ) : Type 0 where
   pub levels : index_levels i Choice ≤ l
-  pub height : index_height i ≤ 1000
+  pub longest : index_longest i ≤ 1000
 
 pub record TestsWithin (cs : List Test) (l : ℕ) : Type 0 where
   pub levels : tests_levels cs ≤ l
-  pub height : tests_height cs ≤ 1000
+  pub longest : tests_longest cs ≤ 1000
 
 pub record WordWithin (w : Wexp) (l : ℕ) : Type 0 where
   pub levels : word_levels w Choice ≤ l

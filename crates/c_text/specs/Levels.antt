@@ -1,4 +1,4 @@
--- How many levels the canonical text of an expression opens, as a number; and how deep an expression is, which bounds its chains.
+-- How many levels the canonical text of an expression opens, as a number; how long the chains of an index are, and how deep a word is, which bounds its chains.
 use Rattle.std.specs.Prelude.{◌<◌, ◌^◌, ℕ, ◌+◌, Bool, true, false, if◌then◌else◌, nat_le, List, [], ◌∷◌}
 use Rattle.loop_lang.specs.declared.index.Iexp.{Iexp, Lit, Size, Loop}
 use Rattle.loop_lang.specs.declared.index.Test.{Test}
@@ -9,6 +9,7 @@ use Rattle.loop_lang.specs.Syntax.{index_larger, word_sum, word_difference, word
 use Rattle.c_print.specs.declared.level.Level.{Level}
 use Rattle.c_print.specs.declared.level.Level.TheVariants.{Choice, Sum, Product, Part}
 use Rattle.c_print.specs.Level.{is_looser}
+use Rattle.c_text.specs.Printable.{index_chain}
 
 -- the larger of two
 abbrev pub most : ℕ → ℕ → ℕ
@@ -30,24 +31,25 @@ index_levels (index_quotient a n) place = one_if (is_looser Product place) (most
 index_levels (index_remainder a n) place = one_if (is_looser Product place) (most (index_levels a Product) 2)
 index_levels (index_larger a b) place = most (index_levels a Choice) (index_levels b Choice) + 1
 
-abbrev pub index_height : Iexp → ℕ
-index_height (Lit n) = 0
-index_height (Size n) = 0
-index_height (Loop d) = 0
-index_height (index_sum a b) = most (index_height a) (index_height b) + 1
-index_height (index_difference a b) = most (index_height a) (index_height b) + 1
-index_height (index_product a b) = most (index_height a) (index_height b) + 1
-index_height (index_quotient a n) = index_height a + 1
-index_height (index_remainder a n) = index_height a + 1
-index_height (index_larger a b) = most (index_height a) (index_height b) + 1
+-- how many operators stand in the longest chain of an index; a larger of two begins new ones
+abbrev pub index_longest : Iexp → ℕ
+index_longest (Lit n) = 0
+index_longest (Size n) = 0
+index_longest (Loop d) = 0
+index_longest (index_sum a b) = most (index_chain Sum a + 1) (most (index_longest a) (index_longest b))
+index_longest (index_difference a b) = most (index_chain Sum a + 1) (most (index_longest a) (index_longest b))
+index_longest (index_product a b) = most (index_chain Product a + 1) (most (index_longest a) (index_longest b))
+index_longest (index_quotient a n) = most (index_chain Product a + 1) (index_longest a)
+index_longest (index_remainder a n) = most (index_chain Product a + 1) (index_longest a)
+index_longest (index_larger a b) = most (index_longest a) (index_longest b)
 
 abbrev pub tests_levels : List Test → ℕ
 tests_levels [] = 0
 tests_levels (c ∷ cs) = most (most (index_levels c.left Sum) (index_levels c.right Sum)) (tests_levels cs)
 
-abbrev pub tests_height : List Test → ℕ
-tests_height [] = 0
-tests_height (c ∷ cs) = most (most (index_height c.left) (index_height c.right)) (tests_height cs)
+abbrev pub tests_longest : List Test → ℕ
+tests_longest [] = 0
+tests_longest (c ∷ cs) = most (most (index_longest c.left) (index_longest c.right)) (tests_longest cs)
 
 abbrev pub word_levels : Wexp → Level → ℕ
 word_levels (word.Lit n) place = 1
@@ -58,14 +60,15 @@ word_levels (word_difference a b) place = one_if (is_looser Sum place) (most (wo
 word_levels (word_product a b) place = one_if (is_looser Product place) (most (word_levels a Product) (word_levels b Part + 1))
 word_levels (word_choice cs a b) place = one_if (is_looser Choice place) (most (tests_levels cs) (most (word_levels a Choice) (word_levels b Choice) + 1))
 
+-- how deep operators and choices of a word stand, and at least the longest chain of its indices
 abbrev pub word_height : Wexp → ℕ
 word_height (word.Lit n) = 0
-word_height (word.Load b i) = index_height i
-word_height (word.OfIndex i) = index_height i
+word_height (word.Load b i) = index_longest i
+word_height (word.OfIndex i) = index_longest i
 word_height (word_sum a b) = most (word_height a) (word_height b) + 1
 word_height (word_difference a b) = most (word_height a) (word_height b) + 1
 word_height (word_product a b) = most (word_height a) (word_height b) + 1
-word_height (word_choice cs a b) = most (tests_height cs) (most (word_height a) (word_height b) + 1)
+word_height (word_choice cs a b) = most (tests_longest cs) (most (word_height a) (word_height b) + 1)
 
 -- each word is one of 64 bits
 abbrev pub LiteralsFit : Wexp → Type 0

@@ -1,0 +1,5 @@
+mod TreeLevels
+mod FlatWords
+mod FlatLoops
+mod FlatLengths
+mod Whole
