@@ -75,6 +75,7 @@ fn buffers_at(
     ensures answer { IsAnswer result (Ok (held_at prog.now given.now lengths.now)) }
     ensures levels { IfOk result (λ b. b.levels ≡ levels prog.now.body) }
 {
+    // No memory has room for 2^64 numbers.
     let Some(levels) = count_levels(&prog.body) else {
         return Err(MakeRefusal::Memory);
     };
