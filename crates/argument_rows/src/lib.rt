@@ -1,0 +1,5 @@
+//! Worked rows of the arguments of rules.
+#![tactic(auto)]
+
+#[cfg(test)]
+mod tests;
