@@ -2,4 +2,4 @@ mod TreeLevels
 mod FlatWords
 mod FlatLoops
 mod FlatLengths
-mod Whole
+pub mod Whole
