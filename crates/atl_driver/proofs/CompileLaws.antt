@@ -1,27 +1,32 @@
 -- From what the reader, the rules of modules, the lowering and the printer say to what the compiler says.
-use Rattle.std.proofs.Common.{◌≡◌, ◌≢◌, inl, inr, ℕ, List, Bool, true, false, refl, ap, sym, subst, ◌∙◌, MatchResult, IfOk, Ok, Err, Some, None}
+use Rattle.std.proofs.Common.{◌≡◌, ◌≢◌, inl, inr, ℕ, List, [], refl, ap, sym, subst, ◌∙◌, MatchResult, IfOk, Ok, Err, Some, None}
 use Rattle.std.specs.Prelude.{IsErrOf}
 use Rattle.std.specs.declared.option.Option.{Option}
 use Rattle.std.specs.declared.result.Result.{Result}
 use Rattle.std.specs.declared.vec.Vec.{Vec}
 use Rattle.term_tree.specs.declared.term.Module.{Module}
+use Rattle.term_tree.specs.declared.term.Path.{Path}
 use Rattle.loop_lang.specs.declared.stmt.Prog.{Prog}
 use Rattle.loop_lang.specs.Form.{IsWellFormed}
 use Rattle.admission.specs.Admission.{Accepted, admission_fault}
 use Rattle.admission.specs.Admission.{Tells as Judges}
 use Rattle.admission.specs.declared.fault.AdmissionFault.{AdmissionFault}
 use Rattle.admission.specs.declared.fault.AdmissionFault.TheVariants as admission
-use Rattle.small_form.specs.Tested.{is_small}
 use Rattle.source_grammar.specs.Source.{SourceText}
 use Rattle.atl_reader.specs.declared.fault.ReadFault.{ReadFault}
 use Rattle.atl_reader.specs.declared.fault.ReadFault.TheVariants as read
 use Rattle.atl_reader.specs.Source.{IsCause, IsFirstFault, read_source}
 use Rattle.atl_reader.specs.Source.{Answers as Reads}
-use Rattle.lowering.specs.Correct.{HasLengths, IsCorrect}
-use Rattle.lowering.specs.Lowered.{loops_of}
+use Rattle.final_rules.specs.Rules.{final_fault}
+use Rattle.final_rules.specs.declared.fault.FinalFault.{FinalFault}
+use Rattle.final_rules.specs.declared.fault.FinalFault.TheVariants as final
+use Rattle.final_verdict.specs.Verdict.{Tells as Refuses}
+use Rattle.lowering_laws.specs.Correct.{HasLengths, IsCorrect}
+use Rattle.lowering_laws.specs.Lowered.{loops_of}
 use Rattle.c_print.specs.Program.{canonical_text}
-use Rattle.atl_driver.specs.Compile.{Answers, Tells, TellsAdmission, TellsFault, admission_fault_of, compiled, compiled_as, fault_of, judged_as}
-use Rattle.atl_driver.specs.Compile.{module_compiled, not_built, text_if}
+use Rattle.c_read.specs.Alone.{IsTextOfAlone}
+use Rattle.atl_driver.specs.Compile.{Answers, Tells, TellsAdmission, TellsFinal, admission_fault_of, compiled, compiled_as, fault_of, final_fault_of}
+use Rattle.atl_driver.specs.Compile.{judged_as, lowered_as, module_compiled}
 use Rattle.atl_driver.specs.Correct.{AreLoops, IsAdmitted, IsCompiled, IsRefusedSource, IsTextOf}
 use Rattle.atl_driver.specs.declared.compile.CompileRefusal.{CompileRefusal}
 use Rattle.atl_driver.specs.declared.compile.CompileRefusal.TheVariants.{Refused, Memory}
@@ -35,28 +40,42 @@ pub text_of_one : (z : List ℕ) (m : Module) → SourceText z m → ((other : M
 text_of_one z m reads only = record { reads = reads; only = λ other is. same_module m other (only other is) }
 
 module _ {A : Type 0} where
-  -- the text of a program that is lowered from the module
-  pub are_loops : (m : Module) (p : Prog) (r : Result (Vec ℕ A) CompileRefusal) → p ≡ loops_of m → IsWellFormed p → HasLengths m p → IsCorrect m p
-      → MatchResult r (λ text. text.items ≡ canonical_text p) (λ refusal. refusal ≡ Memory)
+  -- the text of a program that is lowered from the module, whose printed text stands for it alone
+  pub are_loops : (m : Module) (marks : List Path) (p q : Prog) (r : Result (Vec ℕ A) CompileRefusal) → marks ≡ [] → p ≡ loops_of m marks → q ≡ p
+      → IsWellFormed p → HasLengths m p → IsCorrect m p → IsTextOfAlone (canonical_text (loops_of m marks)) (loops_of m marks)
+      → MatchResult r (λ text. text.items ≡ canonical_text q) (λ refusal. refusal ≡ Memory)
       → MatchResult r (λ text. AreLoops m text.items) (λ refusal. refusal ≡ Memory)
-  are_loops m p (Ok text) loops formed lengths correct prints =
-      record { program = p; loops = loops; prints = prints; formed = formed; lengths = lengths; correct = correct }
-  are_loops m p (Err e) loops formed lengths correct h = h
+  are_loops m marks p q (Ok text) none loops same formed lengths correct text_of prints =
+      let z : text.items ≡ canonical_text p = prints ∙ ap canonical_text same in
+      let own = subst (λ (x : Prog). IsTextOfAlone (canonical_text x) x) (sym loops) text_of in
+      let whole = subst (λ (t : List ℕ). IsTextOfAlone t p) (sym z) own in
+      record {
+        program = p;
+        loops = loops ∙ ap (loops_of m) none;
+        prints = z;
+        reads_back = whole.is;
+        alone = whole.alone;
+        formed = formed;
+        lengths = lengths;
+        correct = correct;
+      }
+  are_loops m marks p q (Err e) none loops same formed lengths correct text_of h = h
 
-  -- of a module of the form that is lowered
-  pub small_answers : (m : Module) (r : Result (Vec ℕ A) CompileRefusal) → is_small m ≡ true
-      → MatchResult r (λ text. AreLoops m text.items) (λ refusal. refusal ≡ Memory) → Answers (text_if (is_small m) m) r
-  small_answers m (Ok text) e h = ap (λ b. text_if b m) e ∙ ap (λ (t : List ℕ). Ok t) (sym (h.prints ∙ ap canonical_text h.loops))
-  small_answers m (Err (Refused fault)) e h = absurd (cc)
-  small_answers m (Err Memory) e h = tt
+  -- of a module that may be lowered
+  pub lowered_answers : (m : Module) (r : Result (Vec ℕ A) CompileRefusal) → final_fault m [] [] ≡ None
+      → MatchResult r (λ text. AreLoops m text.items) (λ refusal. refusal ≡ Memory) → Answers (lowered_as (final_fault m [] []) m) r
+  lowered_answers m (Ok text) e h = ap (λ o. lowered_as o m) e ∙ ap (λ (t : List ℕ). Ok t) (sym (h.prints ∙ ap canonical_text h.loops))
+  lowered_answers m (Err (Refused fault)) e h = absurd (cc)
+  lowered_answers m (Err Memory) e h = tt
 
-  pub small_loops : (m : Module) (r : Result (Vec ℕ A) CompileRefusal) → MatchResult r (λ text. AreLoops m text.items) (λ refusal. refusal ≡ Memory)
-      → IfOk r (λ text. AreLoops m text.items)
-  small_loops m (Ok text) h = h
-  small_loops m (Err e) h = tt
+  pub lowered_loops : (m n : Module) (r : Result (Vec ℕ A) CompileRefusal) → m ≡ n
+      → MatchResult r (λ text. AreLoops m text.items) (λ refusal. refusal ≡ Memory) → IfOk r (λ text. AreLoops n text.items)
+  lowered_loops m n (Ok text) same h = subst (λ o. AreLoops o text.items) same h
+  lowered_loops m n (Err e) same h = tt
 
   -- of a module that is admitted
-  pub admitted_answers : (m : Module) (r : Result (Vec ℕ A) CompileRefusal) → Accepted m → Answers (text_if (is_small m) m) r → Answers (module_compiled m) r
+  pub admitted_answers : (m : Module) (r : Result (Vec ℕ A) CompileRefusal) → Accepted m
+      → Answers (lowered_as (final_fault m [] []) m) r → Answers (module_compiled m) r
   unfolding module_compiled
   admitted_answers m r a h = subst (λ (o : Option AdmissionFault). Answers (judged_as o m) r) (sym a) h
 
@@ -86,21 +105,35 @@ module _ {A : Type 0} where
       let same : told ≡ fault = cc in
       by (admission_fault m) refl (h ∙ ap (λ (f : Fault). Err f) same)
     where
-      by_form : admission_fault m ≡ None → (b : Bool) → is_small m ≡ b → text_if b m ≡ Err fault → IsRefusedSource z fault
-      by_form a true e h = absurd (cc)
-      by_form a false e h = let same : not_built ≡ fault = cc in inr (inr (record { origin = m; reads = reads; admitted = a; unlike = e; told = sym same }))
+      by_form : admission_fault m ≡ None → (o : Option FinalFault) → final_fault m [] [] ≡ o → lowered_as o m ≡ Err fault → IsRefusedSource z fault
+      by_form a None e h = absurd (cc)
+      by_form a (Some broken) e h =
+          let same : final_fault_of broken ≡ fault = cc in
+          inr (inr (record { origin = m; reads = reads; admitted = a; broken = broken; first = e; told = sym same }))
 
       by : (o : Option AdmissionFault) → admission_fault m ≡ o → judged_as o m ≡ Err fault → IsRefusedSource z fault
-      by None e h = by_form e (is_small m) refl h
+      by None e h = by_form e (final_fault m [] []) refl h
       by (Some broken) e h =
           let same : admission_fault_of broken ≡ fault = cc in
           inr (inl (record { origin = m; reads = reads; broken = broken; first = e; told = sym same }))
 
--- of a module of another form
-pub large_answers : (A : Type 0) (m : Module) (refusal : CompileRefusal) → is_small m ≡ false → TellsFault not_built refusal
-    → Answers {A = A} (text_if (is_small m) m) (Err refusal)
-large_answers A m (Refused told) e h = ap (λ b. text_if b m) e ∙ ap (λ (f : Fault). Err f) (sym h)
-large_answers A m Memory e h = tt
+-- of a module that may not be lowered
+pub unlowerable_answers : (A : Type 0) (m : Module) (fault : FinalFault) (refusal : CompileRefusal) → Refuses (final_fault m [] []) fault
+    → TellsFinal fault refusal → Answers {A = A} (lowered_as (final_fault m [] []) m) (Err refusal)
+unlowerable_answers A m fault Memory refuses tells = tt
+unlowerable_answers A m fault (Refused told) refuses tells =
+    ap (λ o. lowered_as o m) (due fault refuses tells.1) ∙ ap (λ (f : Fault). Err f) (sym tells.0)
+  where
+    due : (fault : FinalFault) → Refuses (final_fault m [] []) fault → fault ≢ final.Memory → final_fault m [] [] ≡ Some fault
+    due (final.NotLowerable path) h n = h
+    due (final.NoSuchGoal line) h n = h
+    due (final.AccessNotShown goal) h n = h
+    due (final.DropNotShown goal) h n = h
+    due (final.IndexTooLarge index) h n = h
+    due (final.ParallelNotGen path) h n = h
+    due (final.LetInParallel path) h n = h
+    due (final.NestedParallel path) h n = h
+    due final.Memory h n = absurd (n refl)
 
 -- of a module that is not admitted
 pub unadmitted_answers : (A : Type 0) (m : Module) (fault : AdmissionFault) (refusal : CompileRefusal) → Judges (admission_fault m) fault

@@ -11,8 +11,10 @@ use Rattle.atl_reader.specs.Source.{read_source}
 use Rattle.admission.specs.Admission.{admission_fault}
 use Rattle.admission.specs.declared.fault.AdmissionFault.{AdmissionFault}
 use Rattle.admission.specs.declared.fault.AdmissionFault.TheVariants as admission
-use Rattle.small_form.specs.Tested.{is_small}
-use Rattle.lowering.specs.Lowered.{loops_of}
+use Rattle.final_rules.specs.Rules.{final_fault}
+use Rattle.final_rules.specs.declared.fault.FinalFault.{FinalFault}
+use Rattle.final_rules.specs.declared.fault.FinalFault.TheVariants as final
+use Rattle.lowering_laws.specs.Lowered.{loops_of}
 use Rattle.c_print.specs.Program.{canonical_text}
 use Rattle.atl_driver.specs.declared.command.Verb.{Verb}
 use Rattle.atl_driver.specs.declared.command.Verb.TheVariants.{Compile}
@@ -67,21 +69,29 @@ admission_fault_of (admission.ExtentNotShown goal) = one_field 13 (field.Goal go
 admission_fault_of (admission.BadExample constraint) = one_field 14 (field.Constraint constraint)
 admission_fault_of admission.Memory = no_fault
 
--- the module is not of the form that is lowered so far
-abbrev pub not_built : Fault
-not_built = broken_at 60 0
+-- the fault of a module that may not be lowered
+abbrev pub final_fault_of : FinalFault → Fault
+final_fault_of (final.NotLowerable path) = one_field 30 (field.Path path)
+final_fault_of (final.AccessNotShown goal) = one_field 31 (field.Goal goal)
+final_fault_of (final.DropNotShown goal) = one_field 33 (field.Goal goal)
+final_fault_of (final.IndexTooLarge index) = one_field 34 (field.Index index)
+final_fault_of (final.ParallelNotGen path) = one_field 35 (field.Path path)
+final_fault_of (final.LetInParallel path) = one_field 36 (field.Path path)
+final_fault_of (final.NestedParallel path) = one_field 37 (field.Path path)
+final_fault_of (final.NoSuchGoal line) = one_field 38 (field.Final line)
+final_fault_of final.Memory = no_fault
 
--- the text of an admitted module
-abbrev pub text_if : Bool → Module → Result (List ℕ) Fault
-text_if true m = Ok (canonical_text (loops_of m))
-text_if false m = Err not_built
+-- the text of an admitted module: without final lines and parallel gens
+abbrev pub lowered_as : Option FinalFault → Module → Result (List ℕ) Fault
+lowered_as None m = Ok (canonical_text (loops_of m []))
+lowered_as (Some fault) m = Err (final_fault_of fault)
 
 -- the text of a module with this verdict
 abbrev pub judged_as : Option AdmissionFault → Module → Result (List ℕ) Fault
-judged_as None m = text_if (is_small m) m
+judged_as None m = lowered_as (final_fault m [] []) m
 judged_as (Some fault) m = Err (admission_fault_of fault)
 
--- the text of a module that was read, or its first fault: of the shapes, the extents, the example, and last of the form
+-- the text of a module that was read, or its first fault: of the shapes, the extents, the example, and last of the final form
 unfoldable pub module_compiled : Module → Result (List ℕ) Fault
 module_compiled m = judged_as (admission_fault m) m
 
@@ -103,6 +113,11 @@ Tells fault Memory = ⊤
 abbrev pub TellsAdmission : AdmissionFault → CompileRefusal → Type 0
 TellsAdmission fault (Refused told) = (told ≡ admission_fault_of fault) × (fault ≢ admission.Memory)
 TellsAdmission fault Memory = ⊤
+
+-- the refusal tells what was found in a module that may not be lowered, or that memory did not suffice
+abbrev pub TellsFinal : FinalFault → CompileRefusal → Type 0
+TellsFinal fault (Refused told) = (told ≡ final_fault_of fault) × (fault ≢ final.Memory)
+TellsFinal fault Memory = ⊤
 
 -- the C text of a source, or its first fault
 unfoldable pub compiled : List ℕ → Result (List ℕ) Fault

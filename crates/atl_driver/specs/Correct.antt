@@ -1,31 +1,35 @@
 -- The compiler is correct.
-use Rattle.std.specs.Prelude.{◌≡◌, ◌≢◌, ◌⊎◌, ℕ, List, Some, false}
+use Rattle.std.specs.Prelude.{◌≡◌, ◌≢◌, ◌⊎◌, ℕ, List, [], Some}
 use Rattle.term_tree.specs.declared.term.Module.{Module}
 use Rattle.loop_lang.specs.declared.stmt.Prog.{Prog}
 use Rattle.loop_lang.specs.Form.{IsWellFormed}
 use Rattle.term_tree.specs.Modules.{Allowed, IsSound}
 use Rattle.admission.specs.Admission.{Accepted, admission_fault}
 use Rattle.admission.specs.declared.fault.AdmissionFault.{AdmissionFault}
-use Rattle.small_form.specs.Tested.{is_small}
 use Rattle.source_grammar.specs.Source.{SourceText}
 use Rattle.atl_reader.specs.Source.{IsCause, IsFirstFault}
 use Rattle.atl_reader.specs.declared.fault.ReadFault.{ReadFault}
 use Rattle.atl_reader.specs.declared.fault.ReadFault.TheVariants.{Memory}
-use Rattle.lowering.specs.Correct.{HasLengths, IsCorrect}
-use Rattle.lowering.specs.Lowered.{loops_of}
+use Rattle.final_rules.specs.Rules.{final_fault}
+use Rattle.final_rules.specs.declared.fault.FinalFault.{FinalFault}
+use Rattle.lowering_laws.specs.Correct.{HasLengths, IsCorrect}
+use Rattle.lowering_laws.specs.Lowered.{loops_of}
 use Rattle.c_print.specs.Program.{canonical_text}
+use Rattle.c_text.specs.Statement.{CText}
 use Rattle.atl_driver.specs.declared.command.Verb.{Verb}
 use Rattle.atl_driver.specs.declared.command.Verb.TheVariants.{Compile}
 use Rattle.atl_driver.specs.declared.fault.Fault.{Fault}
-use Rattle.atl_driver.specs.Compile.{admission_fault_of, fault_of, first_content, not_built}
+use Rattle.atl_driver.specs.Compile.{admission_fault_of, fault_of, final_fault_of, first_content}
 
--- The text is the canonical text of the loops of a module: of a program that is well formed, whose printed lengths are the numbers of words of the
--- module's tensors, and whose every run at all allowed sizes, on inputs of these lengths and whatever the outputs hold, ends, touches no index outside a
--- buffer, and leaves in the outputs exactly the words that the module denotes.
+-- The text is the canonical text of the loops of a module, and reads back as that program alone, by the grammar of C texts: a program that is well formed, whose printed lengths are the numbers of words of the
+-- module's tensors and of the scratch region, and whose every run at all allowed sizes, on inputs and scratch of these lengths and whatever outputs and
+-- scratch hold, ends, touches no index outside a buffer, and leaves in the outputs exactly the words that the module denotes.
 pub record AreLoops (origin : Module) (text : List ℕ) : Type 0 where
   pub program : Prog
-  pub loops : program ≡ loops_of origin
+  pub loops : program ≡ loops_of origin []
   pub prints : text ≡ canonical_text program
+  pub reads_back : CText text program
+  pub alone : (other : Prog) → CText text other → other ≡ program
   pub formed : IsWellFormed program
   pub lengths : HasLengths origin program
   pub correct : IsCorrect origin program
@@ -66,17 +70,18 @@ pub record IsUnadmitted (source : List ℕ) (fault : Fault) : Type 0 where
   pub first : admission_fault origin ≡ Some broken
   pub told : fault ≡ admission_fault_of broken
 
--- the source is the text of exactly one module, which is admitted and is not of the form that is lowered so far
-pub record IsUnbuilt (source : List ℕ) (fault : Fault) : Type 0 where
+-- the source is the text of exactly one module, which is admitted, and this is the first rule of the final form that the module breaks
+pub record IsUnlowerable (source : List ℕ) (fault : Fault) : Type 0 where
   pub origin : Module
   pub reads : IsTextOf source origin
   pub admitted : Accepted origin
-  pub unlike : is_small origin ≡ false
-  pub told : fault ≡ not_built
+  pub broken : FinalFault
+  pub first : final_fault origin [] [] ≡ Some broken
+  pub told : fault ≡ final_fault_of broken
 
--- why a source has no text: reading first, then the rules of the module, then its form
+-- why a source has no text: reading first, then the rules of the module, then those of the final form
 abbrev pub IsRefusedSource : List ℕ → Fault → Type 0
-IsRefusedSource source fault = IsUnread source fault ⊎ (IsUnadmitted source fault ⊎ IsUnbuilt source fault)
+IsRefusedSource source fault = IsUnread source fault ⊎ (IsUnadmitted source fault ⊎ IsUnlowerable source fault)
 
 -- the text is right for the contents of a command's files
 abbrev pub IsRight : Verb → List (List ℕ) → List ℕ → Type 0

@@ -52,7 +52,7 @@ final_fault_name number =
     else if number == 38 then codes "NoSuchGoal"
     else unnamed
 
--- the faults of given tensors and of a run, and of what is not built
+-- the faults of given tensors and of a run
 abbrev pub run_fault_name : ℕ → List ℕ
 run_fault_name number =
     if number == 40 then codes "BadData"
@@ -63,7 +63,6 @@ run_fault_name number =
     else if number == 45 then codes "TooManyActions"
     else if number == 50 then codes "BadC"
     else if number == 51 then codes "Stuck"
-    else if number == 60 then codes "NotBuilt"
     else unnamed
 
 -- the name of a fault

@@ -1,12 +1,13 @@
 // The faults of texts and modules, each a number and a field.
 ghost use Rattle.std.specs.Prelude.{◌≡◌, ◌≢◌, [], ◌∷◌, IfOk, MatchResult};
-ghost use Rattle.atl_driver.specs.Compile.{Tells, TellsAdmission, TellsFault, admission_fault_of, fault_of as fault_for, not_built, one_field, shape_fault_of};
+ghost use Rattle.atl_driver.specs.Compile.{Tells, TellsAdmission, TellsFault, TellsFinal, admission_fault_of, fault_of as fault_for, one_field, shape_fault_of};
 ghost use Rattle.atl_driver.specs.declared.compile.CompileRefusal.TheVariants.{Memory};
 
 use crate::compile::CompileRefusal;
 use crate::{Fault, FaultField, Fields};
 use admission::AdmissionFault;
 use atl_reader::ReadFault;
+use final_rules::FinalFault;
 use shape_rules::ShapeFault;
 use std::alloc::{AllocError, Global};
 
@@ -91,9 +92,20 @@ pub fn unadmitted(alloc: Global, fault: AdmissionFault) -> CompileRefusal
     }
 }
 
-/// The refusal of a module that is not of the form that is lowered so far.
-pub fn unbuilt(alloc: Global) -> CompileRefusal
-    ensures { TellsFault not_built result }
+/// The refusal of a module that may not be lowered.
+pub fn unlowerable(alloc: Global, fault: FinalFault) -> CompileRefusal
+    ensures { TellsFinal fault result }
 {
-    refused(alloc, 60, FaultField::At(0))
+    let (number, field) = match fault {
+        FinalFault::NotLowerable(path) => (30, FaultField::Path(path)),
+        FinalFault::AccessNotShown(goal) => (31, FaultField::Goal(goal)),
+        FinalFault::DropNotShown(goal) => (33, FaultField::Goal(goal)),
+        FinalFault::IndexTooLarge(index) => (34, FaultField::Index(index)),
+        FinalFault::ParallelNotGen(path) => (35, FaultField::Path(path)),
+        FinalFault::LetInParallel(path) => (36, FaultField::Path(path)),
+        FinalFault::NestedParallel(path) => (37, FaultField::Path(path)),
+        FinalFault::NoSuchGoal(line) => (38, FaultField::Final(line)),
+        FinalFault::Memory => return CompileRefusal::Memory,
+    };
+    refused(alloc, number, field)
 }

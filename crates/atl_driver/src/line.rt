@@ -151,7 +151,6 @@ fn run_fault_name(number: u8) -> &'static str
         45 => "TooManyActions",
         50 => "BadC",
         51 => "Stuck",
-        60 => "NotBuilt",
         _ => "Unnamed",
     }
 }

@@ -66,7 +66,7 @@ fn a_text_that_is_no_source_has_its_first_fault(rt: HostRuntime) -> Result<(), F
 #[test]
 fn a_module_that_is_not_admitted_has_its_first_fault(rt: HostRuntime) -> Result<(), Fail> {
     let alloc = rt.alloc();
-    let table: [(&[u8], &str); 9] = [
+    let table: [(&[u8], &str); 8] = [
         (
             b"atl 1; input A[4]; output B = flatten(A);",
             "F10 RankMismatch path 0\n",
@@ -99,7 +99,6 @@ fn a_module_that_is_not_admitted_has_its_first_fault(rt: HostRuntime) -> Result<
             b"atl 1; size N in 0..8; example N = 9; output B = 1;",
             "F14 BadExample constraint 1\n",
         ),
-        (b"atl 1; output B = 5 - 2;", "F60 NotBuilt at 0\n"),
     ];
     for (source, line) in table {
         let status = told(&rt, alloc, &COMPILE, source, &[], ("", line))?;

@@ -53,7 +53,6 @@ fn lines_with_a_number(rt: HostRuntime) -> Result<(), Fail> {
         (51, Outside(Buf::Scratch(3), 0), "F51 Stuck outside s3 0"),
         (51, Overflow, "F51 Stuck overflow"),
         (51, Negative, "F51 Stuck negative"),
-        (60, At(20), "F60 NotBuilt at 20"),
     ];
     for (number, field, want) in Vec::from_array(alloc, table)? {
         let mut fields = Vec::new(alloc);

@@ -1,7 +1,5 @@
-pub mod IndexTree
-pub mod Frames
-pub mod Lowered
-pub mod Correct
-pub mod Scatter
-pub mod Nest
-pub mod Room
+pub mod Leaves
+pub mod Made
+pub mod Nodes
+pub mod Outputs
+pub mod Words

@@ -1,13 +1,15 @@
-//! Lowering of terms to loops.
+//! The loops of modules that may be lowered.
 #![tactic(auto)]
 
-mod index_tree;
+mod forms;
+mod leaf;
+mod literals;
+mod marks;
 mod modules;
-mod nest;
-mod places;
-mod reads;
-mod refusal;
+mod node;
+mod outputs;
+mod parts;
+mod walk;
 mod words;
 
 pub use modules::lower;
-pub use refusal::LowerFault;

@@ -1,102 +1,140 @@
-//! Lowering of modules.
+//! Programs of modules.
 
-ghost use Rattle.std.specs.Prelude.{◌≡◌, ◌^◌, ◌<◌, ◌≤◌, ◌∷◌, [], All, IfOk, length, map, pos};
-ghost use Rattle.loop_lang.specs.Actions.{Puts};
+ghost use Rattle.std.specs.Prelude.{◌≡◌, ◌≤◌, ◌++◌, All, IfOk, IsOk, length, map, true};
 ghost use Rattle.loop_lang.specs.Form.{IsWellFormed};
-ghost use Rattle.lowering.specs.Correct.{HasLengths, IsCorrect};
-ghost use Rattle.small_form.specs.SmallForm.{IsSmall};
-ghost use Rattle.lowering.specs.Lowered.{length_tree, loops_of, sites_from, term_loops};
-ghost use Rattle.lowering.specs.Nest.{gens_of, nest_program, nest_site};
-ghost use Rattle.lowering.specs.Room.{HasRoom, LeafInLimits, LengthInLimits, NestInLimits};
+ghost use Rattle.region_plan.specs.Length.{length_tree};
+ghost use Rattle.region_plan.specs.Needed.{module_needed};
+ghost use Rattle.shape_rules.specs.Fits.{LiteralsFit};
+ghost use Rattle.term_tree.specs.Modules.{IsSound};
+ghost use Rattle.final_rules.specs.Rules.{any_let, output_extents};
+ghost use Rattle.lowering_laws.specs.Correct.{HasLengths, IsCorrect};
+ghost use Rattle.lowering_laws.specs.Lowered.{loops_of, program_of, region_length, scratch_lengths, scratch_many, words_tree};
+ghost use Rattle.lowering.specs.Outputs.{ModuleReady, outer_scene};
 
-use crate::index_tree::index_tree;
-use crate::nest::{gens_of, nest};
-use crate::places::length_form;
-use crate::refusal::LowerFault;
-use affine_index::Aff;
-use loop_lang::{Buf, Iexp, Prog, Stmt};
-use sqlite_items::Items;
-use std::alloc::Global;
-use term_tree::{InputDecl, Module, Term};
+use crate::literals::told_from;
+use crate::outputs::{any_let, input_lengths, output_lengths, outputs_loops};
+use affine_index::AffRefusal;
+use final_rules::Final;
+use final_rules::printing::Scene;
+use loop_lang::{Iexp, Prog, Stmt};
+use region_plan::{length_tree, scratch_length};
+use shape_rules::Shapes;
+use shape_rules::extents::input_shapes;
+use sqlite_items::{Boxed, Items};
+use std::alloc::{AllocError, Global};
+use term_tree::{InputDecl, Module, Path};
 
-fn length_tree(alloc: Global, extents: &[Aff]) -> Result<Iexp, LowerFault>
-    requires { LengthInLimits extents.now }
-    ensures { IfOk result (λ t. t ≡ length_tree extents.now) }
+/// The inputs alone, outside all lets.
+fn outer_scene(alloc: Global, inputs: &[InputDecl]) -> Result<Scene, AllocError>
+    ensures { IfOk result (λ sc. sc ≡ outer_scene inputs.now) }
 {
-    let form = length_form(alloc, extents)?;
-    index_tree(alloc, 0, &form)
+    let inputs = input_shapes(alloc, inputs)?;
+    let lets = Items::new(alloc);
+    let offsets = Items::new(alloc);
+    Ok(Scene {
+        shapes: Shapes { lets, inputs },
+        offsets,
+    })
 }
 
-/// The lengths of the inputs.
-fn input_lengths(alloc: Global, inputs: &[InputDecl]) -> Result<Items<Iexp>, LowerFault>
-    requires { All (λ d. LengthInLimits d.extents) inputs.now }
-    ensures { IfOk result (λ ts. ts ≡ map (λ d. length_tree d.extents) inputs.now) }
+/// The length of the scratch region.
+fn region_tree(alloc: Global, module: &Module) -> Result<Iexp, AllocError>
+    requires sound { IsSound «module».now }
+    requires made { IsOk (module_needed «module».now) }
+    ensures { IfOk result (λ t. t ≡ length_tree (region_length (module_needed «module».now))) }
+{
+    match scratch_length(alloc, module) {
+        Ok(length) => length_tree(alloc, &length),
+        Err(AffRefusal::Memory) => Err(AllocError),
+        Err(AffRefusal::CoefficientTooLarge)
+        | Err(AffRefusal::IndexTooLong)
+        | Err(AffRefusal::NotAffine) => unreachable!(),
+    }
+}
+
+/// The lengths of scratch buffers: one where there is a let.
+fn scratch_lengths(alloc: Global, module: &Module, lets: bool) -> Result<Items<Iexp>, AllocError>
+    requires sound { IsSound «module».now }
+    requires made { lets ≡ true → IsOk (module_needed «module».now) }
+    ensures { IfOk result (λ ts. ts ≡ scratch_lengths «module».now lets) }
 {
     let mut all = Items::new(alloc);
-    for input in inputs {
-        all.push(length_tree(alloc, input.extents.as_slice())?)?;
+    if lets {
+        all.push(region_tree(alloc, module)?)?;
     }
     Ok(all)
 }
 
-/// A fill of the output, and its loops.
-fn statements(
-    alloc: Global,
-    inputs: &[InputDecl],
-    extents: &[Aff],
-    term: &Term,
-) -> Result<Items<Stmt>, LowerFault>
-    requires gens { length (gens_of term.now) < 2 ^ 32 }
-    requires length { LengthInLimits extents.now }
-    requires place { LeafInLimits extents.now }
-    requires reads { NestInLimits inputs.now term.now }
-    ensures { IfOk result (λ b. b ≡ Stmt.Zero (Buf.Output 0) (Iexp.Lit (pos 0)) (length_tree extents.now) ∷ term_loops term.now (sites_from 0 inputs.now) (nest_site 0 extents.now) [] 0 Puts) }
+/// How many scratch buffers there are.
+fn scratch_many(lets: bool) -> u32
+    ensures { result ≡ scratch_many lets }
 {
-    let length = length_tree(alloc, extents)?;
-    let loops = nest(alloc, inputs, 0, extents, 0, term)?;
-    let mut all = Items::new(alloc);
-    all.push(Stmt::Zero(Buf::Output(0), Iexp::Lit(0), length))?;
-    all.append(loops)?;
+    if lets { 1 } else { 0 }
+}
+
+/// The lengths of all buffers.
+fn lengths(
+    alloc: Global,
+    module: &Module,
+    scene: &Scene,
+    lets: bool,
+) -> Result<Items<Iexp>, AllocError>
+    requires ready { ModuleReady «module».now }
+    requires scene { scene.now ≡ outer_scene «module».now.inputs }
+    requires lets { lets ≡ any_let «module».now.outputs }
+    ensures { IfOk result (λ ts. ts ≡ map (λ d. words_tree d.extents) «module».now.inputs ++ (map (λ o. words_tree (output_extents «module».now o)) «module».now.outputs ++ scratch_lengths «module».now lets)) }
+{
+    let mut all = input_lengths(alloc, module.inputs.as_slice())?;
+    let outputs = output_lengths(alloc, &scene.shapes, module.outputs.as_slice())?;
+    all.append(outputs)?;
+    let scratch = scratch_lengths(alloc, module, lets)?;
+    all.append(scratch)?;
     Ok(all)
 }
 
-/// The program of a nest.
-fn nest_program(
-    alloc: Global,
-    sizes: u32,
-    inputs: &[InputDecl],
-    term: &Term,
-) -> Result<Prog, LowerFault>
-    requires few { length inputs.now < 2 ^ 32 }
-    requires gens { length (gens_of term.now) < 2 ^ 32 }
-    requires room { HasRoom inputs.now term.now }
-    ensures { IfOk result (λ p. p ≡ nest_program sizes inputs.now term.now) }
-{
-    let extents = gens_of(alloc, Items::new(alloc), term)?;
-    let mut lengths = input_lengths(alloc, inputs)?;
-    lengths.push(length_tree(alloc, extents.as_slice())?)?;
-    let body = statements(alloc, inputs, extents.as_slice(), term)?;
-    Ok(Prog {
-        sizes,
-        inputs: inputs.len() as u32,
-        outputs: 1,
-        scratch: 0,
-        lengths,
-        body: Stmt::Seq(body),
-    })
-}
-
-/// The loops of a module.
-pub fn lower(alloc: Global, module: &Module) -> Result<Prog, LowerFault>
-    requires small { IsSmall «module».now }
+/// The program of a module.
+fn program(alloc: Global, module: &Module, paths: &[Path]) -> Result<Boxed<Prog>, AllocError>
+    requires ready { ModuleReady «module».now }
     requires sizes { length «module».now.sizes ≤ 2147483647 }
     requires inputs { length «module».now.inputs ≤ 2147483647 }
-    ensures loops { IfOk result (λ p. p ≡ loops_of «module».now) }
-    ensures formed { IfOk result (λ p. IsWellFormed p) }
-    ensures correct { IfOk result (λ p. IsCorrect «module».now p) }
-    ensures lengths { IfOk result (λ p. HasLengths «module».now p) }
+    requires outputs { length «module».now.outputs ≤ 2147483647 }
+    ensures { IfOk result (λ p. p ≡ program_of «module».now paths.now) }
 {
-    let output = &module.outputs.as_slice()[0];
     let sizes = module.sizes.len() as u32;
-    nest_program(alloc, sizes, module.inputs.as_slice(), &output.term)
+    let inputs = module.inputs.len() as u32;
+    let outputs = module.outputs.len() as u32;
+    let lets = any_let(module.outputs.as_slice());
+    let mut scene = outer_scene(alloc, module.inputs.as_slice())?;
+    let lengths = lengths(alloc, module, &scene, lets)?;
+    let body = outputs_loops(alloc, &mut scene, module.outputs.as_slice(), paths)?;
+    Boxed::new(
+        alloc,
+        Prog {
+            sizes,
+            inputs,
+            outputs,
+            scratch: scratch_many(lets),
+            lengths,
+            body: Stmt::Seq(body),
+        },
+    )
+}
+
+/// The loops of a module that may be lowered: for each output a fill and the statements of its term, with one scratch region for all lets. Linear in the terms, and for each leaf in
+/// the nodes around it.
+pub fn lower(alloc: Global, last: &Final) -> Result<Boxed<Prog>, AllocError>
+    requires sizes { length last.now.0.sizes ≤ 2147483647 }
+    requires inputs { length last.now.0.inputs ≤ 2147483647 }
+    requires outputs { length last.now.0.outputs ≤ 2147483647 }
+    ensures loops { IfOk result (λ p. p ≡ loops_of last.now.0 last.now.2) }
+    ensures formed { IfOk result (λ p. IsWellFormed p) }
+    ensures lengths { IfOk result (λ p. HasLengths last.now.0 p) }
+    ensures correct { IfOk result (λ p. IsCorrect last.now.0 p) }
+    // The literals of a module are words, by their type.
+    ensures literals { All (λ o. LiteralsFit o.term) last.now.0.outputs }
+{
+    last.told();
+    let module = last.last();
+    told_from(module.outputs.as_slice(), 0);
+    program(alloc, module, last.parallel())
 }

@@ -1,97 +1,197 @@
 //! Words: terms in scalar positions.
-#![tactic(auto, using(crate::proofs::CodeLaws::load_laws))]
 
-ghost use Rattle.std.specs.Prelude.{◌≡◌, IfOk};
-ghost use Rattle.lowering.specs.Lowered.{loaded, of_read, read_of, sites_from, word_loops};
-ghost use Rattle.lowering.specs.Room.{ReadInLimits, ReadOfInLimits, WordInLimits};
+ghost use Rattle.std.specs.Prelude.{◌≡◌, [], IfOk, get_or, map, pos};
+ghost use Rattle.loop_lang.specs.declared.word.Buf.TheVariants.{Output};
+ghost use Rattle.final_rules.specs.Form.{read_under};
+ghost use Rattle.final_rules.specs.Owed.{test_of};
+ghost use Rattle.lowering.specs.Made.{ReadMade, ReadMadeIf, WordMade};
+ghost use Rattle.lowering.specs.Nodes.{buffers_under};
+ghost use Rattle.lowering.specs.Words.{chosen_in, loaded_if_in, loaded_in, word_in};
 
-use crate::index_tree::index_tree;
-use crate::places::row_place;
-use crate::reads::{Read, read_of};
-use crate::refusal::LowerFault;
-use loop_lang::{Buf, Iexp, Wexp};
-use sqlite_items::{Boxed, at};
-use std::alloc::Global;
-use term_tree::{InputDecl, Term};
+use crate::forms::read_tree;
+use affine_index::{Cmp, Cond, Rel};
+use final_rules::Read;
+use final_rules::printing::Scene;
+use final_rules::read::reading;
+use index_trees::index_tree;
+use loop_lang::{Buf, Iexp, Test, Wexp};
+use owned_values::two;
+use shape_rules::Shapes;
+use sqlite_items::{Boxed, Items};
+use std::alloc::{AllocError, Global};
+use term_tree::Term;
+
+/// The buffer of a tensor variable: lets lie in the scratch region.
+fn buffer_at(shapes: &Shapes, var: u32) -> Buf
+    ensures { result ≡ get_or (buffers_under shapes.now.lets shapes.now.inputs) var (Output 0) }
+{
+    let lets = shapes.lets.len();
+    let number = var as usize;
+    if number < lets {
+        return Buf::Scratch(0);
+    }
+    let number = number - lets;
+    if number < shapes.inputs.len() {
+        Buf::Input(number as u32)
+    } else {
+        Buf::Output(0)
+    }
+}
 
 /// The load of a read.
 pub fn load(
     alloc: Global,
-    inputs: &[InputDecl],
+    scene: &Scene,
     loops: u32,
     read: &Read,
-) -> Result<Wexp, LowerFault>
-    requires { ReadInLimits inputs.now read.now }
-    ensures { IfOk result (λ w. w ≡ loaded read.now (sites_from 0 inputs.now) loops) }
+) -> Result<Boxed<Wexp>, AllocError>
+    requires { ReadMade scene.now read.now }
+    ensures { IfOk result (λ w. w ≡ loaded_in scene.now loops read.now) }
 {
-    match at(inputs, read.var as usize) {
-        Some(input) => {
-            let place = row_place(alloc, input.extents.as_slice(), read.indices.as_slice())?;
-            let tree = index_tree(alloc, loops, &place)?;
-            Ok(Wexp::Load(Buf::Input(read.var), tree))
-        }
-        None => Ok(Wexp::Load(Buf::Output(0), Iexp::Lit(0))),
+    let tree = read_tree(alloc, scene, loops, read)?;
+    let buffer = buffer_at(&scene.shapes, read.var);
+    Boxed::new(alloc, Wexp::Load(buffer, tree))
+}
+
+/// The load of a read, if there is one.
+fn load_if(
+    alloc: Global,
+    scene: &Scene,
+    loops: u32,
+    read: Option<Read>,
+) -> Result<Boxed<Wexp>, AllocError>
+    requires { ReadMadeIf scene.now read }
+    ensures { IfOk result (λ w. w ≡ loaded_if_in scene.now loops read) }
+{
+    match read {
+        None => Boxed::new(alloc, Wexp::Lit(0)),
+        Some(read) => load(alloc, scene, loops, &read),
     }
 }
 
-/// The word of a read.
+/// The load of a tensor variable under indices.
 fn read_word(
     alloc: Global,
-    inputs: &[InputDecl],
+    scene: &Scene,
     loops: u32,
     term: &Term,
-) -> Result<Wexp, LowerFault>
-    requires { ReadOfInLimits inputs.now term.now }
-    ensures { IfOk result (λ w. w ≡ (of_read (read_of term.now)).word (sites_from 0 inputs.now) loops) }
+) -> Result<Boxed<Wexp>, AllocError>
+    requires { ReadMadeIf scene.now (read_under term.now []) }
+    ensures { IfOk result (λ w. w ≡ loaded_if_in scene.now loops (read_under term.now [])) }
 {
-    match read_of(alloc, term)? {
-        Some(read) => load(alloc, inputs, loops, &read),
-        None => Ok(Wexp::Lit(0)),
+    let read = reading(alloc, term, Items::new(alloc))?;
+    load_if(alloc, scene, loops, read)
+}
+
+/// A comparison of a form with 0.
+fn comparison(alloc: Global, loops: u32, cmp: &Cmp) -> Result<Test, AllocError>
+    ensures { IfOk result (λ t. t ≡ test_of loops cmp.now) }
+{
+    match cmp {
+        Cmp::Ge(form) => {
+            let left = index_tree(alloc, loops, form)?;
+            Ok(Test {
+                left,
+                rel: Rel::Ge,
+                right: Iexp::Lit(0),
+            })
+        }
+        Cmp::Eq(form) => {
+            let left = index_tree(alloc, loops, form)?;
+            Ok(Test {
+                left,
+                rel: Rel::Eq,
+                right: Iexp::Lit(0),
+            })
+        }
     }
 }
 
-#[cycle(word)]
-fn boxed(
-    alloc: Global,
-    inputs: &[InputDecl],
-    loops: u32,
-    term: &Term,
-) -> Result<Boxed<Wexp>, LowerFault>
-    requires room { WordInLimits inputs.now term.now }
-    ensures { IfOk result (λ w. w ≡ word_loops term.now (sites_from 0 inputs.now) loops) }
+/// The comparisons of a condition.
+pub fn tests(alloc: Global, loops: u32, cmps: &[Cmp]) -> Result<Items<Test>, AllocError>
+    ensures { IfOk result (λ ts. ts ≡ map (test_of loops) cmps.now) }
 {
-    let word = word(alloc, inputs, loops, term)?;
-    Ok(Boxed::new(alloc, word)?)
+    let mut all = Items::new(alloc);
+    for cmp in cmps {
+        all.push(comparison(alloc, loops, cmp)?)?;
+    }
+    Ok(all)
 }
 
-/// The word of a term.
+/// Two words.
 #[cycle(word)]
+fn two_words(
+    alloc: Global,
+    scene: &Scene,
+    loops: u32,
+    left: &Term,
+    right: &Term,
+) -> Result<(Boxed<Wexp>, Boxed<Wexp>), AllocError>
+    requires left { WordMade scene.now left.now }
+    requires right { WordMade scene.now right.now }
+    ensures { IfOk result (λ ws. (ws.0 ≡ word_in scene.now loops left.now) × (ws.1 ≡ word_in scene.now loops right.now)) }
+{
+    two(
+        word(alloc, scene, loops, left),
+        word(alloc, scene, loops, right),
+    )
+}
+
+/// A word where tests hold, else 0.
+#[cycle(word)]
+fn chosen(
+    alloc: Global,
+    scene: &Scene,
+    loops: u32,
+    cond: &Cond,
+    part: &Term,
+) -> Result<Boxed<Wexp>, AllocError>
+    requires { WordMade scene.now part.now }
+    ensures { IfOk result (λ w. w ≡ chosen_in scene.now loops cond.now part.now) }
+{
+    let tests = tests(alloc, loops, cond.all.as_slice())?;
+    let (part, zero) = two(
+        word(alloc, scene, loops, part),
+        Boxed::new(alloc, Wexp::Lit(0)),
+    )?;
+    Boxed::new(alloc, Wexp::Choose(tests, part, zero))
+}
+
+/// The word of a term under so many loops. Linear in the term, and for each read in its indices.
+#[cycle(word)]
+#[tactic(auto, using(crate::proofs::WordForms::word_forms))]
 pub fn word(
     alloc: Global,
-    inputs: &[InputDecl],
+    scene: &Scene,
     loops: u32,
     term: &Term,
-) -> Result<Wexp, LowerFault>
-    requires room { WordInLimits inputs.now term.now }
-    ensures { IfOk result (λ w. w ≡ word_loops term.now (sites_from 0 inputs.now) loops) }
+) -> Result<Boxed<Wexp>, AllocError>
+    requires { WordMade scene.now term.now }
+    ensures { IfOk result (λ w. w ≡ word_in scene.now loops term.now) }
 {
     match term {
-        Term::Lit(word) => Ok(Wexp::Lit(*word)),
-        Term::TVar(_) | Term::Index(_, _) => read_word(alloc, inputs, loops, term),
-        Term::Add(left, right) => Ok(Wexp::Add(
-            boxed(alloc, inputs, loops, left.get())?,
-            boxed(alloc, inputs, loops, right.get())?,
-        )),
-        Term::Mul(left, right) => Ok(Wexp::Mul(
-            boxed(alloc, inputs, loops, left.get())?,
-            boxed(alloc, inputs, loops, right.get())?,
-        )),
-        Term::WordOf(_)
-        | Term::Gen(_, _)
+        Term::Lit(word) => Boxed::new(alloc, Wexp::Lit(*word)),
+        Term::WordOf(index) => {
+            let tree = index_tree(alloc, loops, index)?;
+            Boxed::new(alloc, Wexp::OfIndex(tree))
+        }
+        Term::TVar(_) | Term::Index(_, _) => read_word(alloc, scene, loops, term),
+        Term::Guard(cond, part) => chosen(alloc, scene, loops, cond, part.get()),
+        Term::Add(a, b) => {
+            let (a, b) = two_words(alloc, scene, loops, a.get(), b.get())?;
+            Boxed::new(alloc, Wexp::Add(a, b))
+        }
+        Term::Sub(a, b) => {
+            let (a, b) = two_words(alloc, scene, loops, a.get(), b.get())?;
+            Boxed::new(alloc, Wexp::Sub(a, b))
+        }
+        Term::Mul(a, b) => {
+            let (a, b) = two_words(alloc, scene, loops, a.get(), b.get())?;
+            Boxed::new(alloc, Wexp::Mul(a, b))
+        }
+        Term::Gen(_, _)
         | Term::Sum(_, _)
-        | Term::Guard(_, _)
         | Term::Let(_, _)
-        | Term::Sub(_, _)
         | Term::Concat(_, _)
         | Term::Flatten(_)
         | Term::Split(_, _)
@@ -99,6 +199,6 @@ pub fn word(
         | Term::TruncL(_, _)
         | Term::TruncR(_, _)
         | Term::PadL(_, _)
-        | Term::PadR(_, _) => Ok(Wexp::Lit(0)),
+        | Term::PadR(_, _) => Boxed::new(alloc, Wexp::Lit(0)),
     }
 }

@@ -5,8 +5,8 @@ use Rattle.std.proofs.lemmas.Bool.{lt-ltb, le-ltb, cases_lt}
 use Rattle.std.proofs.lemmas.Nat.{mul-add-lt, same_from_place, div-add-mod'}
 use Rattle.std.proofs.Math.Nat.{mod-lt, mul_comm, mul-le-mul_right}
 use Rattle.loop_lang.specs.Actions.{Mode, Puts, Adds}
-use Rattle.lowering.proofs.Algebra.{Within}
-use Rattle.lowering.proofs.Clear.{Clear, Injective}
+use Rattle.lowering_laws.proofs.Algebra.{Within}
+use Rattle.lowering_laws.proofs.Clear.{Clear, Injective}
 use Rattle.reindexer.specs.Sending.{kept, swapped, flattened, spread}
 use Rattle.lowering_laws.specs.Sending.{shifted, dropped}
 

@@ -29,7 +29,7 @@ use Rattle.final_rules.specs.Accepted.{InputsFit, IsLowerable, OutputsFit, Scrat
 use Rattle.final_rules.specs.Printed.{largest_index}
 use Rattle.final_rules.specs.Rules.{any_let, output_extents, output_place}
 use Rattle.final_rules.proofs.Main.{accepted-stays-within}
-use Rattle.lowering.proofs.Does.{region}
+use Rattle.lowering_laws.proofs.Does.{region}
 use Rattle.lowering_laws.specs.Correct.{Computed, HasLengths, IsCorrect, IsOwed, LengthsAreRight, LoopsAreRight, OutputsOwe, OutputsRoom, OutputsShapesFit}
 use Rattle.lowering_laws.specs.Correct.{region_words, scratch_counts, word_counts}
 use Rattle.lowering_laws.specs.Lowered.{outputs_loops, program_of, region_length, scratch_lengths, scratch_many, words_tree}
@@ -179,7 +179,7 @@ module _ (m : Module) (finals : List FinalLine) (marks : List Path) (low : IsLow
   outputs_extents s a = let v = sound_shapes m low.sound s a in extents_are m s m.outputs v.0 v.1
 
   -- each length is the number of words of its buffer
-  pub has_lengths : HasLengths m marks
+  pub has_lengths : HasLengths m (program_of m marks)
   has_lengths s a =
       let w = within s a in
       computed_append s (map (λ d. words_tree d.extents) m.inputs) _ (map word_count (input_extents m s)) _ (inputs_computed s m.inputs w.inputs)
@@ -210,7 +210,7 @@ module _ (m : Module) (finals : List FinalLine) (marks : List Path) (low : IsLow
       record { outputs = p.0; scratch = p.1 }
 
   -- at all allowed sizes at which its loops are owed what they need, every run of the program is right
-  pub is_correct : All (λ o. LiteralsFit o.term) m.outputs → ((s : List ℕ) → Allowed m s → IsOwed m s) → IsCorrect m marks
+  pub is_correct : All (λ o. LiteralsFit o.term) m.outputs → ((s : List ℕ) → Allowed m s → IsOwed m s) → IsCorrect m (program_of m marks)
   is_correct lit owed s a ts are n mem held =
       record {
         after = r.after;

@@ -1,5 +1,9 @@
 pub mod Accepting
+pub mod Algebra
 pub mod Apart
+pub mod Calm
+pub mod Clear
+pub mod Does
 pub mod FormedLoops
 pub mod FormedWords
 pub mod Going
@@ -14,6 +18,7 @@ pub mod PrintedHeld
 pub mod Reshaped
 pub mod Right
 pub mod Rooms
+pub mod RowOrder
 pub mod Rows
 pub mod Scattered
 pub mod StoredReads

@@ -22,7 +22,7 @@ use Rattle.loop_lang.proofs.Statements.{acts-zero}
 use Rattle.index_trees.specs.Tree.{index_tree}
 use Rattle.index_trees.proofs.TreeLaws.{tree-items}
 use Rattle.final_rules.specs.Rules.{input_site, output_extents}
-use Rattle.lowering.proofs.Does.{Area, In, Out, region, Leaves, Does}
+use Rattle.lowering_laws.proofs.Does.{Area, In, Out, region, Leaves, Does}
 use Rattle.lowering_laws.specs.Contexts.{Context}
 use Rattle.lowering_laws.specs.Marks.{output_marks}
 use Rattle.lowering_laws.specs.Lowered.{loops_at, input_buffers, output_spot, words_tree, outputs_loops}

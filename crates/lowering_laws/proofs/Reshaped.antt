@@ -15,11 +15,10 @@ use Rattle.loop_lang.proofs.Following.{acts_all-append}
 use Rattle.final_rules.specs.declared.spot.Around.{Around}
 use Rattle.final_rules.specs.declared.spot.Around.TheVariants.{Swapped, Joined, Tiled, Later, Without, Before}
 use Rattle.final_rules.specs.Places.{shape_at, first_of, rest_of}
-use Rattle.lowering.specs.Frames.{Placing}
-use Rattle.lowering.specs.Scatter.{scatter}
-use Rattle.lowering.proofs.Algebra.{Within, length-scatter, Words-scatter, scatter_other}
-use Rattle.lowering.proofs.Does.{Area, part, Does, does_then}
-use Rattle.lowering.proofs.Clear.{Clear, Injective, InRange}
+use Rattle.lowering_laws.specs.Scatter.{Placing, scatter}
+use Rattle.lowering_laws.proofs.Algebra.{Within, length-scatter, Words-scatter, scatter_other}
+use Rattle.lowering_laws.proofs.Does.{Area, part, Does, does_then}
+use Rattle.lowering_laws.proofs.Clear.{Clear, Injective, InRange}
 use Rattle.lowering_laws.specs.Marks.{Marks, through_child}
 use Rattle.lowering_laws.specs.Contexts.{Context, onto_right, under_frame}
 use Rattle.lowering_laws.specs.Lowered.{loops_at}

@@ -35,15 +35,15 @@ use Rattle.final_rules.specs.declared.spot.Around.TheVariants.{Loop, Swapped, Jo
 use Rattle.final_rules.specs.Places.{Site, shapes, shape_at, length_form, store_form}
 use Rattle.final_rules.proofs.PlaceValues.{verdict, tests-hold}
 use Rattle.final_rules.proofs.Walk.{binders-bound, binders-holds}
-use Rattle.lowering.specs.Frames.{Placing, under, placed}
-use Rattle.lowering.specs.Scatter.{add_at, scatter}
-use Rattle.lowering.proofs.Algebra.{Words, length-scatter, Words-scatter, scatter_turns, scatter-rows}
-use Rattle.lowering.proofs.RowOrder.{place, placed-is, place_lt, place_inj, flat_from_zeros}
-use Rattle.lowering.proofs.Does.{Area, In, Out, Part, region, part, buffer_of, base, length-read, read_agree, Target, Leaves, Kept, Kept-trans, leaves_kept}
-use Rattle.lowering.proofs.Does.{target_after, target_kept, target_more, part_kept, Does, does_then, does_nothing, does_tick, does_turns, does_before}
-use Rattle.lowering.proofs.Does.{does_fewer, does_last, does_store, does_zero}
-use Rattle.lowering.proofs.Calm.{Calm, calm_after}
-use Rattle.lowering.proofs.Clear.{zero_at, Clear, Injective, InRange, ClearFrom, clear_start, clear_row, clear_next}
+use Rattle.lowering_laws.specs.Scatter.{Placing, under, placed, add_at, scatter}
+use Rattle.lowering_laws.proofs.Algebra.{Words, length-scatter, Words-scatter, scatter_turns, scatter-rows}
+use Rattle.lowering_laws.proofs.RowOrder.{place, placed-is, place_lt, place_inj, flat_from_zeros}
+use Rattle.lowering_laws.proofs.Does.{Area, In, Out, Part, region, part, buffer_of, base, length-read, read_agree, Target, Leaves, Kept, Kept-trans}
+use Rattle.lowering_laws.proofs.Does.{leaves_kept}
+use Rattle.lowering_laws.proofs.Does.{target_after, target_kept, target_more, part_kept, Does, does_then, does_nothing, does_tick, does_turns, does_before}
+use Rattle.lowering_laws.proofs.Does.{does_fewer, does_last, does_store, does_zero}
+use Rattle.lowering_laws.proofs.Calm.{Calm, calm_after}
+use Rattle.lowering_laws.proofs.Clear.{zero_at, Clear, Injective, InRange, ClearFrom, clear_start, clear_row, clear_next}
 use Rattle.lowering_laws.specs.Marks.{Marks, is_marked, through_child}
 use Rattle.lowering_laws.specs.Contexts.{Context, depth, tree_at, into_gen, into_sum, into_guard, adding, into_definition, into_body}
 use Rattle.lowering_laws.specs.Contexts.{region as scratch}

@@ -8,10 +8,9 @@ use Rattle.term_tree.specs.Tensors.{Tensor, Word, End, Row, rows_of, from_rows, 
 use Rattle.term_tree.specs.Meaning.{chunks}
 use Rattle.std.proofs.lemmas.Nat.{div-mul-add, mod-mul-add}
 use Rattle.term_tree.specs.Shaped.{HasRows, HasShape}
-use Rattle.lowering.specs.Frames.{Placing, under}
-use Rattle.lowering.specs.Scatter.{add_at, later, scatter}
-use Rattle.lowering.proofs.Algebra.{ext, Words, Words-scatter}
-use Rattle.lowering.proofs.RowOrder.{rows_many}
+use Rattle.lowering_laws.specs.Scatter.{Placing, under, add_at, later, scatter}
+use Rattle.lowering_laws.proofs.Algebra.{ext, Words, Words-scatter}
+use Rattle.lowering_laws.proofs.RowOrder.{rows_many}
 use Rattle.reindexer.specs.Sending.{kept, flattened, spread}
 use Rattle.lowering_laws.specs.Sending.{shifted, dropped}
 

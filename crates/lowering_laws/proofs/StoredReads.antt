@@ -28,12 +28,11 @@ use Rattle.final_rules.specs.declared.read.Read.{Read}
 use Rattle.final_rules.specs.Form.{read_under, one_deeper, each_shifted}
 use Rattle.final_rules.specs.Owed.{Values}
 use Rattle.final_rules.specs.Places.{shape_at}
-use Rattle.lowering.specs.Frames.{Placing, under}
-use Rattle.lowering.specs.Scatter.{scatter}
-use Rattle.lowering.proofs.Algebra.{length-scatter, Words-scatter, scatter_turns, scatter-rows}
-use Rattle.lowering.proofs.RowOrder.{rows_many, row_has, At}
-use Rattle.lowering.proofs.Does.{Area, part, Leaves, Does, does_last, does_turns}
-use Rattle.lowering.proofs.Clear.{Clear, Injective, InRange, ClearFrom, clear_start, clear_row, clear_next}
+use Rattle.lowering_laws.specs.Scatter.{Placing, under, scatter}
+use Rattle.lowering_laws.proofs.Algebra.{length-scatter, Words-scatter, scatter_turns, scatter-rows}
+use Rattle.lowering_laws.proofs.RowOrder.{rows_many, row_has, At}
+use Rattle.lowering_laws.proofs.Does.{Area, part, Leaves, Does, does_last, does_turns}
+use Rattle.lowering_laws.proofs.Clear.{Clear, Injective, InRange, ClearFrom, clear_start, clear_row, clear_next}
 use Rattle.lowering_laws.specs.Contexts.{Context, depth, into_gen}
 use Rattle.lowering_laws.specs.Lowered.{loaded, full_read, full_read_if}
 use Rattle.lowering_laws.specs.Owes.{AllOrdered, VarsThere, FullReadOwes, FullReadOwesIf}

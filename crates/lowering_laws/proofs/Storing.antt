@@ -19,7 +19,7 @@ use Rattle.term_tree.specs.Shaped.{word_count}
 use Rattle.final_rules.specs.Owed.{StoreFits, Values}
 use Rattle.final_rules.specs.Places.{Place, frames_at, row_form, store_form}
 use Rattle.final_rules.proofs.PlaceValues.{row-value}
-use Rattle.lowering.specs.Frames.{placed}
+use Rattle.lowering_laws.specs.Scatter.{placed}
 use Rattle.lowering_laws.specs.Owes.{StorePlaced}
 use Rattle.lowering_laws.specs.Sending.{goes, sends}
 use Rattle.lowering_laws.proofs.Going.{amounts-hold, amounts-ready}

@@ -3,9 +3,8 @@ use Rattle.std.proofs.Common.{◌≡◌, ℕ, zero, suc, ◌+◌, List, [], ◌�
 use Rattle.term_tree.specs.Tensors.{Tensor, Word, End, Row, rows_of, from_rows, tabulate}
 use Rattle.term_tree.specs.Shaped.{HasRows, HasShape}
 use Rattle.term_tree.specs.Meaning.{columns}
-use Rattle.lowering.specs.Frames.{Placing, under}
-use Rattle.lowering.specs.Scatter.{scatter}
-use Rattle.lowering.proofs.RowOrder.{rows_many}
+use Rattle.lowering_laws.specs.Scatter.{Placing, under, scatter}
+use Rattle.lowering_laws.proofs.RowOrder.{rows_many}
 use Rattle.reindexer.specs.Sending.{swapped}
 use Rattle.lowering_laws.proofs.Scattered.{scatter_comm, scatter_list, scatter_rows, scatter_each}
 

@@ -16,13 +16,12 @@ use Rattle.loop_lang.specs.declared.word.Buf.TheVariants.{Output}
 use Rattle.loop_lang.specs.Actions.{Action, then_follow, zeroed, acts_all}
 use Rattle.loop_lang.specs.Memory.{Memory}
 use Rattle.final_rules.specs.Rules.{output_extents}
-use Rattle.lowering.specs.Frames.{placed}
-use Rattle.lowering.specs.Scatter.{scatter}
-use Rattle.lowering.proofs.Algebra.{Words}
-use Rattle.lowering.proofs.RowOrder.{placed-is, place, place_lt, place_inj, flat_from_zeros}
-use Rattle.lowering.proofs.Does.{Area, Out, region, target_after, Does, does_then, does_zero}
-use Rattle.lowering.proofs.Calm.{calm_after}
-use Rattle.lowering.proofs.Clear.{zero_at}
+use Rattle.lowering_laws.specs.Scatter.{placed, scatter}
+use Rattle.lowering_laws.proofs.Algebra.{Words}
+use Rattle.lowering_laws.proofs.RowOrder.{placed-is, place, place_lt, place_inj, flat_from_zeros}
+use Rattle.lowering_laws.proofs.Does.{Area, Out, region, target_after, Does, does_then, does_zero}
+use Rattle.lowering_laws.proofs.Calm.{calm_after}
+use Rattle.lowering_laws.proofs.Clear.{zero_at}
 use Rattle.lowering_laws.specs.Marks.{Marks}
 use Rattle.lowering_laws.specs.Lowered.{loops_at, output_spot}
 use Rattle.lowering_laws.proofs.Words.{AllHeld}

@@ -30,10 +30,10 @@ use Rattle.reindexer.specs.Sending.{Within as WithinSite}
 use Rattle.final_rules.specs.Places.{Site, nowhere, read_form}
 use Rattle.final_rules.proofs.PlaceValues.{verdict, tests-hold}
 use Rattle.final_rules.proofs.Walk.{binders-holds}
-use Rattle.lowering.proofs.Algebra.{Within}
-use Rattle.lowering.proofs.RowOrder.{place, place_lt, length-flat, At, word_at as word_at_tuple}
-use Rattle.lowering.proofs.Does.{Area, region, part, buffer_of, base}
-use Rattle.lowering.proofs.Calm.{Calm, area_read}
+use Rattle.lowering_laws.proofs.Algebra.{Within}
+use Rattle.lowering_laws.proofs.RowOrder.{place, place_lt, length-flat, At, word_at as word_at_tuple}
+use Rattle.lowering_laws.proofs.Does.{Area, region, part, buffer_of, base}
+use Rattle.lowering_laws.proofs.Calm.{Calm, area_read}
 use Rattle.lowering_laws.specs.Contexts.{Context, depth, into_guard}
 use Rattle.lowering_laws.specs.Lowered.{loaded, loaded_if, word_at}
 use Rattle.lowering_laws.specs.Owes.{VarsThere}

@@ -12,6 +12,7 @@ use Rattle.loop_lang.specs.declared.index.Iexp.{Iexp}
 use Rattle.loop_lang.specs.Form.{IsWellFormed}
 use Rattle.loop_lang.specs.Memory.{Memory, Ends}
 use Rattle.loop_lang.specs.Reckoning.{Value, reckon}
+use Rattle.loop_lang.specs.declared.stmt.Prog.{Prog}
 use Rattle.loop_lang.specs.Run.{IsMemoryOf, run}
 use Rattle.shape_rules.specs.Fits.{LiteralsFit, ShapesFit}
 use Rattle.shape_rules.specs.Meant.{input_extents}
@@ -59,22 +60,24 @@ abbrev pub AcceptedIsOwed : Type 0
 AcceptedIsOwed = (m : Module) (finals : List FinalLine) (marks : List Path) → IsLowerable m finals marks → (s : List ℕ) → Allowed m s → IsOwed m s
 
 -- a run ends, and leaves in the outputs the words of what the module denotes, and the inputs as they were
-pub record Leaves (m : Module) (marks : List Path) (s : List ℕ) (inputs : List Tensor) (memory : Memory) : Type 0 where
+pub record Leaves (m : Module) (p : Prog) (s : List ℕ) (inputs : List Tensor) (memory : Memory) : Type 0 where
   pub after : Memory
-  pub runs : run (program_of m marks) s memory ≡ Ends after
+  pub runs : run p s memory ≡ Ends after
   pub outputs : after.outputs ≡ map flat (module_den m s inputs)
   pub inputs_kept : after.inputs ≡ memory.inputs
 
--- at all allowed sizes, whatever outputs and scratch hold
-abbrev pub IsCorrect : Module → List Path → Type 0
-IsCorrect m marks =
-    (s : List ℕ) → Allowed m s → (inputs : List Tensor) → AreInputs m.inputs s inputs → (memory : Memory) → IsMemoryOf (program_of m marks) s memory
-    → memory.inputs ≡ map flat inputs → Leaves m marks s inputs memory
+-- at all allowed sizes, on inputs that are the words of tensors of the declared extents and whatever outputs and scratch hold, the run of the program ends, so
+-- that it touched no index outside a buffer, and leaves exactly the words of what the module denotes
+abbrev pub IsCorrect : Module → Prog → Type 0
+IsCorrect m p =
+    (s : List ℕ) → Allowed m s → (inputs : List Tensor) → AreInputs m.inputs s inputs → (memory : Memory) → IsMemoryOf p s memory
+    → memory.inputs ≡ map flat inputs → Leaves m p s inputs memory
 
 -- the loops of every module that may be lowered, each literal of which is a word, are right
 abbrev pub LoopsAreRight : Type 0
 LoopsAreRight =
-    (m : Module) (finals : List FinalLine) (marks : List Path) → IsLowerable m finals marks → All (λ o. LiteralsFit o.term) m.outputs → IsCorrect m marks
+    (m : Module) (finals : List FinalLine) (marks : List Path) → IsLowerable m finals marks → All (λ o. LiteralsFit o.term) m.outputs
+    → IsCorrect m (program_of m marks)
 
 -- what the scratch region has, if there is one
 abbrev pub scratch_counts : Module → List ℕ → Bool → List ℕ
@@ -95,11 +98,11 @@ word_counts m s =
     ++ (map (λ o. word_count (dims o.term s (input_extents m s))) m.outputs ++ scratch_counts m s (any_let m.outputs))
 
 -- at all allowed sizes each length is computed, and is that number of words, which is at most 2^62
-abbrev pub HasLengths : Module → List Path → Type 0
-HasLengths m marks = (s : List ℕ) → Allowed m s → Computed s (program_of m marks).lengths (word_counts m s)
+abbrev pub HasLengths : Module → Prog → Type 0
+HasLengths m p = (s : List ℕ) → Allowed m s → Computed s p.lengths (word_counts m s)
 
 abbrev pub LengthsAreRight : Type 0
-LengthsAreRight = (m : Module) (finals : List FinalLine) (marks : List Path) → IsLowerable m finals marks → HasLengths m marks
+LengthsAreRight = (m : Module) (finals : List FinalLine) (marks : List Path) → IsLowerable m finals marks → HasLengths m (program_of m marks)
 
 -- everything that the program of such a module names is there
 abbrev pub AcceptedIsFormed : Type 0

@@ -4,7 +4,7 @@ use Rattle.term_tree.specs.Meaning.{extent}
 use Rattle.reindexer.specs.Sending.{Sending, swapped, flattened, spread, kept}
 use Rattle.final_rules.specs.declared.spot.Around.{Around}
 use Rattle.final_rules.specs.declared.spot.Around.TheVariants.{Loop, Swapped, Joined, Tiled, Later, Without, Before}
-use Rattle.lowering.specs.Frames.{Placing, placed}
+use Rattle.lowering_laws.specs.Scatter.{Placing, placed}
 
 -- one more index in front
 abbrev pub fixed : {A : Type 0} → ℕ → Sending A → Sending A

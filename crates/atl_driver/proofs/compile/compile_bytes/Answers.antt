@@ -1,9 +1,19 @@
 use Rattle.std.proofs.Common.{Global, arith}
 use Rattle.atl_driver.proofs.CompileLaws.{answers_read, answers_unread, compiled_read, refused_read, refused_unread, text_of_one}
+use Rattle.atl_driver.proofs.HasOutputs.{source-few, source-shallow, source-some}
 use Rattle.atl_driver.proofs.compile.compile_bytes.Goals as goal
 
 pub module_text-text-requires-clause-scoped : goal.module_text-text-requires-clause-scoped
 module_text-text-requires-clause-scoped c = c.in-Ok.ensures.scoped
+
+pub module_text-text-requires-clause-some : goal.module_text-text-requires-clause-some
+module_text-text-requires-clause-some c = source-some c.args.source.now c.in-Ok.module c.in-Ok.ensures.found
+
+pub module_text-text-requires-clause-nodes : goal.module_text-text-requires-clause-nodes
+module_text-text-requires-clause-nodes c = source-few c.args.source.now c.in-Ok.module c.in-Ok.ensures.found
+
+pub module_text-text-requires-clause-depths : goal.module_text-text-requires-clause-depths
+module_text-text-requires-clause-depths c = source-shallow c.args.source.now c.in-Ok.module c.in-Ok.ensures.found
 
 pub module_text-text-requires-clause-sizes : goal.module_text-text-requires-clause-sizes
 module_text-text-requires-clause-sizes c = omega (arith, c.requires, c.in-Ok.ensures.few)

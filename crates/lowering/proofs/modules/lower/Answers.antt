@@ -1,40 +1,44 @@
-use Rattle.std.proofs.Common.{◌≡◌, IfOk, subst, arith}
+use Rattle.std.proofs.Common.{◌≡◌, IfOk, subst, sym}
 use Rattle.loop_lang.specs.Form.{IsWellFormed}
-use Rattle.lowering.specs.Correct.{IsCorrect, HasLengths}
-use Rattle.lowering.specs.Lowered.{loops_of}
-use Rattle.lowering.proofs.Lowering.{few_gens, program-at, if_ok, small_formed, small_correct, small_has_lengths}
-use Rattle.lowering.proofs.SmallRoom.{room_at}
+use Rattle.loop_lang.specs.declared.stmt.Prog.{Prog}
+use Rattle.lowering_laws.specs.Correct.{HasLengths, IsCorrect}
+use Rattle.lowering_laws.specs.Lowered.{loops_of, program_of}
+use Rattle.lowering_laws.proofs.Joined.{lengths_are_right, loops_are_right}
+use Rattle.lowering_laws.proofs.WellFormed.{accepted_is_formed}
+use Rattle.lowering.specs.Outputs.{ModuleReady}
+use Rattle.lowering.proofs.LiteralLaws.{each-output}
+use Rattle.lowering.proofs.OutputLaws.{if-ok-as, lowerable-ready}
 use Rattle.lowering.proofs.modules.lower.Goals as goal
+
+pub program-requires-clause-ready : goal.program-requires-clause-ready
+program-requires-clause-ready c =
+    subst ModuleReady (sym c.last-module.ensures) (lowerable-ready c.args.last.now.0 c.args.last.now.1 c.args.last.now.2 c.told.ensures)
 
 pub returns-clause-loops : goal.returns-clause-loops
 unfolding loops_of
 returns-clause-loops c =
-    let e = program-at c.args.module.now c.requires.small c.len-sizes.result c.as_slice-2.result.now c.as_slice.result.now c.index-as_slice-0.result
-        c.len-sizes.ensures c.as_slice-2.ensures c.as_slice.ensures c.index-as_slice-0.is in
-    subst (λ q. IfOk c.nest_program.result (λ p. p ≡ q)) e c.nest_program.ensures
+    subst (λ (q : Prog). IfOk c.program.result (λ p. p ≡ q)) (λ i. program_of (c.last-module.ensures i) (c.parallel.ensures i)) c.program.ensures
 
 pub returns-clause-formed : goal.returns-clause-formed
 unfolding loops_of
-returns-clause-formed c = if_ok c.nest_program.result (loops_of c.args.module.now) IsWellFormed (returns-clause-loops c)
-    (small_formed c.args.module.now c.requires.small)
-
-pub returns-clause-correct : goal.returns-clause-correct
-unfolding loops_of
-returns-clause-correct c = if_ok c.nest_program.result (loops_of c.args.module.now) (IsCorrect c.args.module.now) (returns-clause-loops c)
-    (small_correct c.args.module.now c.requires.small)
+returns-clause-formed c =
+    if-ok-as c.program.result (program_of c.args.last.now.0 c.args.last.now.2) IsWellFormed
+    (subst (λ (q : Prog). IfOk c.program.result (λ p. p ≡ q)) (λ i. program_of (c.last-module.ensures i) (c.parallel.ensures i)) c.program.ensures)
+    (accepted_is_formed c.args.last.now.0 c.args.last.now.1 c.args.last.now.2 c.told.ensures)
 
 pub returns-clause-lengths : goal.returns-clause-lengths
-unfolding loops_of
-returns-clause-lengths c = if_ok c.nest_program.result (loops_of c.args.module.now) (HasLengths c.args.module.now) (returns-clause-loops c)
-    (small_has_lengths c.args.module.now c.requires.small)
+returns-clause-lengths c =
+    if-ok-as c.program.result (program_of c.args.last.now.0 c.args.last.now.2) (HasLengths c.args.last.now.0)
+    (subst (λ (q : Prog). IfOk c.program.result (λ p. p ≡ q)) (λ i. program_of (c.last-module.ensures i) (c.parallel.ensures i)) c.program.ensures)
+    (lengths_are_right c.args.last.now.0 c.args.last.now.1 c.args.last.now.2 c.told.ensures)
 
-pub nest_program-requires-clause-gens : goal.nest_program-requires-clause-gens
-nest_program-requires-clause-gens c =
-    omega (arith, few_gens c.args.module.now c.requires.small c.as_slice.result.now c.index-as_slice-0.result c.as_slice.ensures c.index-as_slice-0.is)
+pub returns-clause-correct : goal.returns-clause-correct
+returns-clause-correct c =
+    if-ok-as c.program.result (program_of c.args.last.now.0 c.args.last.now.2) (IsCorrect c.args.last.now.0)
+    (subst (λ (q : Prog). IfOk c.program.result (λ p. p ≡ q)) (λ i. program_of (c.last-module.ensures i) (c.parallel.ensures i)) c.program.ensures)
+    (loops_are_right c.args.last.now.0 c.args.last.now.1 c.args.last.now.2 c.told.ensures
+    (each-output c.args.last.now.0 c.last-module.result.now c.as_slice.result.now c.last-module.ensures c.as_slice.ensures c.told_from.ensures))
 
-pub nest_program-requires-clause-room : goal.nest_program-requires-clause-room
-nest_program-requires-clause-room c =
-    let inputs = c.as_slice-2 in
-    let outputs = c.as_slice in
-    let output = c.index-as_slice-0 in
-    room_at c.args.module.now c.requires.small inputs.result.now outputs.result.now output.result inputs.ensures outputs.ensures output.is
+pub returns-clause-literals : goal.returns-clause-literals
+returns-clause-literals c =
+    each-output c.args.last.now.0 c.last-module.result.now c.as_slice.result.now c.last-module.ensures c.as_slice.ensures c.told_from.ensures

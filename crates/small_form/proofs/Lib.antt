@@ -1,2 +1,0 @@
-mod CodeLaws
-mod TestLaws

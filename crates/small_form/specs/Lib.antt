@@ -1,2 +1,0 @@
-pub mod SmallForm
-pub mod Tested
