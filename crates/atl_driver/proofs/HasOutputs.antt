@@ -33,7 +33,7 @@ module _ (ds : List SizeDecl) (is : List InputDecl) where
   repeated-some (suc n) left ws os p (inl r) = subst (λ (l : List OutputDecl). l ≢ []) (sym r.1) p
   repeated-some (suc n) left ws os p (inr r) =
       repeated-some n r.value r.rest os
-        (subst (λ (l : List OutputDecl). l ≢ []) (same-list (with_last left r.right) r.value r.joins) (some-last left r.right)) r.is_rest
+      (subst (λ (l : List OutputDecl). l ≢ []) (same-list (with_last left r.right) r.value r.joins) (some-last left r.right)) r.is_rest
 
   more-some : (one : Bool) (left : List OutputDecl) (ws : List Word) (os : List OutputDecl) → left ≢ [] → AreMoreOutputs one ds is left ws os → os ≢ []
   more-some true left ws os p r = subst (λ (l : List OutputDecl). l ≢ []) (sym r.1) p
@@ -51,7 +51,7 @@ module-some version ws m r =
     let inputs = example.is_then in
     let outputs = inputs.is_then in
     subst (λ (l : List OutputDecl). l ≢ []) (sym (ap (λ (x : Module). x.outputs) outputs.is_then.1))
-      (outputs-some sizes.value inputs.value version outputs.front outputs.value outputs.is_first)
+    (outputs-some sizes.value inputs.value version outputs.front outputs.value outputs.is_first)
 
 -- a text has an output
 pub source-some : (z : List ℕ) (m : Module) → SourceText z m → m.outputs ≢ []

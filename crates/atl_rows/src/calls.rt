@@ -9,6 +9,12 @@ use std::test::Fail;
 /// The words that compile the file.
 pub const COMPILE: [&str; 2] = ["compile", "a.atl"];
 
+// The lines that all texts begin with.
+const HEAD: &str = "#include <stdint.h>
+static int64_t top(int64_t x, int64_t y) { return x > y ? x : y; }
+static void fill(uint64_t *p, int64_t at, int64_t n) { for (int64_t i = 0; i < n; i = i + 1) p[at + i] = 0; }
+";
+
 type Held = Vec<(String, Vec<u8>)>;
 
 fn held(alloc: Global, content: &[u8]) -> Result<Held, AllocError> {
@@ -81,4 +87,12 @@ pub fn answered(alloc: Global, content: &str) -> Result<Status, Fail> {
     let mut out = MemSink::new(alloc, 1_048_576, Vec::new(alloc))?;
     let mut err = MemSink::new(alloc, 64, Vec::new(alloc))?;
     Ok(call(alloc, &COMPILE, &mut files, &mut out, &mut err)?)
+}
+
+/// A source is compiled to these lines behind those that all texts begin with.
+pub fn compiles(rt: &impl Abort, alloc: Global, source: &str, lines: &str) -> Result<(), Fail> {
+    let text = format!(in alloc; "{HEAD}{lines}")?;
+    let status = written(rt, alloc, source, 4096, &[], (text.as_str(), ""))?;
+    assert!(rt; matches!(status, Status::Done));
+    Ok(())
 }

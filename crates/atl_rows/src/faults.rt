@@ -7,6 +7,10 @@ use std::test::Fail;
 
 const ONE_WORD: &str = "atl 1;\noutput B = ";
 
+// Of 2^61 words.
+const WIDE: &str =
+    "atl 1; size N in 0..2147483648; size M in 0..1073741824; example N = 1, M = 1; input A[N][M]; output B = gen i < N. gen j < M. A[i][j];";
+
 #[test]
 fn a_text_that_is_no_source_has_its_first_fault(rt: HostRuntime) -> Result<(), Fail> {
     let alloc = rt.alloc();
@@ -107,6 +111,62 @@ fn a_module_that_is_not_admitted_has_its_first_fault(rt: HostRuntime) -> Result<
     Ok(())
 }
 
+#[test]
+fn a_module_that_may_not_be_lowered_has_its_first_fault(rt: HostRuntime) -> Result<(), Fail> {
+    let alloc = rt.alloc();
+    let table: [(&[u8], &str); 11] = [
+        (
+            b"atl 1; size N in 1..8; example N = 3; input A[N]; output B = (gen i < N. A[i])[N];",
+            "F30 NotLowerable path 0\n",
+        ),
+        (
+            b"atl 1; size N in 0..1048576; example N = 3; output B = sum i < N. (gen j < N. 7)[i];",
+            "F30 NotLowerable path 0.0\n",
+        ),
+        (
+            b"atl 1; size N in 1..64; size D in 1..64; example N = 2, D = 2; input Q[N][D]; input K[N][D]; input V[N][D]; output O = let s = gen i < N. gen j < N. sum d < D. Q[i][d] * transpose(K)[d][j] in gen i < N. gen e < D. sum j < N. s[i][j] * V[j][e];",
+            "F30 NotLowerable path 0.0.0.0.0.1\n",
+        ),
+        (
+            b"atl 1; input A[4]; output B = A - A;",
+            "F30 NotLowerable path 0\n",
+        ),
+        (
+            b"atl 2; output B = 1; output C = 2 * (gen i < 2. 1)[0];",
+            "F30 NotLowerable path 1.1\n",
+        ),
+        (
+            b"atl 1; size N in 0..8; example N = 3; input A[N]; output B = gen i < N. A[i + 1];",
+            "F31 AccessNotShown goal 2\n",
+        ),
+        (
+            b"atl 1; size N in 0..8; example N = 3; input A[N]; output B = gen i < N. A[i] * A[i - 1];",
+            "F31 AccessNotShown goal 3\n",
+        ),
+        (
+            b"atl 1; size N in 2..8; example N = 3; input A[N]; output B = truncr(2, gen i < N. A[i]);",
+            "F33 DropNotShown goal 1\n",
+        ),
+        (
+            b"atl 1; size N in 2..8; example N = 3; input A[N]; output B = truncl(1, gen i < N. A[i]);",
+            "F33 DropNotShown goal 1\n",
+        ),
+        (
+            b"atl 1; size N in 0..1099511627776; size M in 0..1099511627776; example N = 1, M = 1; input A[N][M]; output B = gen i < N. gen j < M. A[i][j];",
+            "F34 IndexTooLarge index 1\n",
+        ),
+        (
+            b"atl 2; size N in 0..1099511627776; example N = 1; output B = sum i < N. word(N * i);",
+            "F34 IndexTooLarge index 6\n",
+        ),
+    ];
+    for (source, line) in table {
+        let status = told(&rt, alloc, &COMPILE, source, &[], ("", line))?;
+        assert!(rt; matches!(status, Status::Refused(_)));
+    }
+    Ok(())
+}
+
 /// A piece, so many times, with a separator between.
 fn joined(alloc: Global, piece: &str, separator: &str, count: u32) -> Result<String, AllocError> {
     let mut text = String::new(alloc);
@@ -140,7 +200,7 @@ fn sums(alloc: Global, sums: u32, last: u32) -> Result<String, AllocError> {
 }
 
 #[test]
-fn levels_depth_and_nodes_have_their_limits(rt: HostRuntime) -> Result<(), Fail> {
+fn levels_depth_nodes_and_indices_have_their_limits(rt: HostRuntime) -> Result<(), Fail> {
     let alloc = rt.alloc();
     let mut levels = String::from_str(alloc, ONE_WORD)?;
     levels.push_str(joined(alloc, "(", "", 1001)?.as_str())?;
@@ -159,6 +219,7 @@ fn levels_depth_and_nodes_have_their_limits(rt: HostRuntime) -> Result<(), Fail>
         output_of(alloc, joined(alloc, "1", " + ", 201)?.as_str())?,
         output_of(alloc, sums(alloc, 99, 100)?.as_str())?,
         String::from_str(alloc, "atl 1; input word; output B = word;")?,
+        String::from_str(alloc, WIDE)?,
     ];
     for source in Vec::from_array(alloc, table)? {
         let status = answered(alloc, source.as_str())?;

@@ -8,6 +8,8 @@ mod faults;
 #[cfg(test)]
 mod lines;
 #[cfg(test)]
+mod lowered;
+#[cfg(test)]
 mod outside;
 #[cfg(test)]
 mod sources;

@@ -1,14 +1,7 @@
 //! Sources with their C texts.
 
-use crate::calls::written;
-use atl_driver::Status;
+use crate::calls::compiles;
 use std::test::Fail;
-
-// The lines that all texts begin with.
-const HEAD: &str = "#include <stdint.h>
-static int64_t top(int64_t x, int64_t y) { return x > y ? x : y; }
-static void fill(uint64_t *p, int64_t at, int64_t n) { for (int64_t i = 0; i < n; i = i + 1) p[at + i] = 0; }
-";
 
 const SCALE: &str =
     "atl 1; size N in 0..8; example N = 3; input A[N]; output B = gen i < N. A[i] * 2;";
@@ -126,9 +119,7 @@ fn sources_have_their_texts(rt: HostRuntime) -> Result<(), Fail> {
         (UPDATE, UPDATE_LINES),
     ];
     for (source, lines) in table {
-        let text = format!(in alloc; "{HEAD}{lines}")?;
-        let status = written(&rt, alloc, source, 1024, &[], (text.as_str(), ""))?;
-        assert!(rt; matches!(status, Status::Done));
+        compiles(&rt, alloc, source, lines)?;
     }
     Ok(())
 }

@@ -11,6 +11,6 @@ returns-in-Ok c =
     let marks = c.args.last.now.2 in
     let small = subst HasSmallNumbers (c.get.ensures ∙ c.in-Ok.ensures.loops) c.has_small_numbers.ensures in
     let alone = texts_are_alone m c.args.last.now.1 marks
-        (record { lowerable = c.told.ensures; literals = c.lower.ensures.literals; depths = c.requires.depths; numbers = small }) in
+    (record { lowerable = c.told.ensures; literals = c.lower.ensures.literals; depths = c.requires.depths; numbers = small }) in
     are_loops m marks c.in-Ok.program c.get-in-Ok.result.now c.printed-text.result c.requires.marks c.in-Ok.ensures.loops c.get-in-Ok.ensures
     c.in-Ok.ensures.formed c.in-Ok.ensures.lengths c.in-Ok.ensures.correct alone c.printed-text.ensures
