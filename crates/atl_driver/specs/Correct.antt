@@ -14,6 +14,7 @@ use Rattle.final_rules.specs.Rules.{final_fault}
 use Rattle.final_rules.specs.declared.fault.FinalFault.{FinalFault}
 use Rattle.lowering_laws.specs.Correct.{HasLengths, IsCorrect}
 use Rattle.lowering_laws.specs.Lowered.{loops_of}
+use Rattle.lowering_laws.specs.Nest.{module_nest, nests_of_program}
 use Rattle.c_print.specs.Program.{canonical_text}
 use Rattle.c_text.specs.Statement.{CText}
 use Rattle.atl_driver.specs.declared.command.Verb.{Verb}
@@ -21,15 +22,17 @@ use Rattle.atl_driver.specs.declared.command.Verb.TheVariants.{Compile}
 use Rattle.atl_driver.specs.declared.fault.Fault.{Fault}
 use Rattle.atl_driver.specs.Compile.{admission_fault_of, fault_of, final_fault_of, first_content}
 
--- The text is the canonical text of the loops of a module, and reads back as that program alone, by the grammar of C texts: a program that is well formed, whose printed lengths are the numbers of words of the
--- module's tensors and of the scratch region, and whose every run at all allowed sizes, on inputs and scratch of these lengths and whatever outputs and
--- scratch hold, ends, touches no index outside a buffer, and leaves in the outputs exactly the words that the module denotes.
+-- The text is the canonical text of the loops of a module, and reads back as that program alone, by the grammar of C texts. The program is well formed, and
+-- its loops, without places and fills, are those of the module and no others. Its printed lengths are the numbers of words of the module's tensors and of
+-- the scratch region, and its every run at all allowed sizes, on inputs and scratch of these lengths and whatever outputs and scratch hold, ends, touches no
+-- index outside a buffer, and leaves in the outputs exactly the words that the module denotes.
 pub record AreLoops (origin : Module) (text : List ℕ) : Type 0 where
   pub program : Prog
   pub loops : program ≡ loops_of origin []
   pub prints : text ≡ canonical_text program
   pub reads_back : CText text program
   pub alone : (other : Prog) → CText text other → other ≡ program
+  pub nests : nests_of_program program ≡ module_nest origin []
   pub formed : IsWellFormed program
   pub lengths : HasLengths origin program
   pub correct : IsCorrect origin program

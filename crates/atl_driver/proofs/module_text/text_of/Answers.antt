@@ -1,11 +1,14 @@
 use Rattle.std.proofs.Common.{◌∙◌, subst}
 use Rattle.loop_lang.specs.declared.stmt.Prog.{Prog}
 use Rattle.c_text.specs.Statement.{HasSmallNumbers}
+use Rattle.lowering_laws.specs.Lowered.{loops_of}
+use Rattle.lowering_laws.proofs.PrintedBack.{nests_agree}
 use Rattle.printable_loops.proofs.Whole.{texts_are_alone}
 use Rattle.atl_driver.proofs.CompileLaws.{are_loops}
 use Rattle.atl_driver.proofs.module_text.text_of.Goals as goal
 
 pub returns-in-Ok : goal.returns-in-Ok
+unfolding loops_of
 returns-in-Ok c =
     let m = c.args.last.now.0 in
     let marks = c.args.last.now.2 in
@@ -13,4 +16,4 @@ returns-in-Ok c =
     let alone = texts_are_alone m c.args.last.now.1 marks
     (record { lowerable = c.told.ensures; literals = c.lower.ensures.literals; depths = c.requires.depths; numbers = small }) in
     are_loops m marks c.in-Ok.program c.get-in-Ok.result.now c.printed-text.result c.requires.marks c.in-Ok.ensures.loops c.get-in-Ok.ensures
-    c.in-Ok.ensures.formed c.in-Ok.ensures.lengths c.in-Ok.ensures.correct alone c.printed-text.ensures
+    c.in-Ok.ensures.formed c.in-Ok.ensures.lengths c.in-Ok.ensures.correct alone (nests_agree m c.args.last.now.1 marks c.told.ensures) c.printed-text.ensures
