@@ -71,11 +71,13 @@ pub tests-ok : (sizes loops : ℕ) (cs : List Cmp) (p : Place) → Every (Held s
 tests-ok sizes loops [] p h = record { levels = omega arith; longest = omega arith }
 tests-ok sizes loops (Ge x ∷ cs) p h =
     let rest = tests-ok sizes loops cs p h.1 in
-    let q = test-ok sizes loops x (tests_levels (tests_of loops cs)) (tests_longest (tests_of loops cs)) (plain-ok sizes loops x p h.0) rest.levels rest.longest in
+    let q = test-ok sizes loops x (tests_levels (tests_of loops cs)) (tests_longest (tests_of loops cs)) (plain-ok sizes loops x p h.0) rest.levels rest.longest
+    in
     record { levels = q.0; longest = q.1 }
 tests-ok sizes loops (Eq x ∷ cs) p h =
     let rest = tests-ok sizes loops cs p h.1 in
-    let q = test-ok sizes loops x (tests_levels (tests_of loops cs)) (tests_longest (tests_of loops cs)) (plain-ok sizes loops x p h.0) rest.levels rest.longest in
+    let q = test-ok sizes loops x (tests_levels (tests_of loops cs)) (tests_longest (tests_of loops cs)) (plain-ok sizes loops x p h.0) rest.levels rest.longest
+    in
     record { levels = q.0; longest = q.1 }
 
 -- a word of a term that is so deep

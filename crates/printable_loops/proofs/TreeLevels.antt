@@ -362,7 +362,8 @@ module _ (loops : ℕ) where
   each_within (t ∷ ts) = (for_atoms AtomWithin FormWithin size_within var_within div_within mul_within form_within t.atom, each_within ts)
 
   -- the tree of a normal form behind a first summand, if any, of these levels and no chain of products or sums
-  pub tree_after_within : (i : Items) → is_normal i ≡ true → (b : ℕ) → 514 ≤ b → (p : Option Iexp) → Summands b 0 128 p → SumWithin b 300 128 (tree_after loops p i)
+  pub tree_after_within : (i : Items) → is_normal i ≡ true → (b : ℕ) → 514 ≤ b → (p : Option Iexp) → Summands b 0 128 p
+      → SumWithin b 300 128 (tree_after loops p i)
   tree_after_within i n b l p f =
       let parts = normal_parts i n in
       after-within i (each_within i.terms) parts.ordered parts.short b 128 (omega (arith, parts.short, l)) parts.short p f

@@ -115,7 +115,10 @@ first_all P x xs h = h zero x (omega arith)
 
 depths-of : (os : List OutputDecl) → std.All (λ o. node_depth o.term ≤ 200) os → DeepAtMost 200 os
 depths-of [] h = tt
-depths-of (o ∷ os) h = (first_all (λ (o : OutputDecl). node_depth o.term ≤ 200) o os h, depths-of os (rest_all (λ (o : OutputDecl). node_depth o.term ≤ 200) o os h))
+depths-of (o ∷ os) h = (
+  first_all (λ (o : OutputDecl). node_depth o.term ≤ 200) o os h,
+  depths-of os (rest_all (λ (o : OutputDecl). node_depth o.term ≤ 200) o os h),
+)
 
 literals-of : (os : List OutputDecl) → std.All (λ o. LiteralsFit o.term) os → LiteralsWithin os
 literals-of [] h = tt
