@@ -44,24 +44,25 @@ module _ {A : Type 0} where
   -- the text of a program that is lowered from the module, whose printed text stands for it alone
   pub are_loops : (m : Module) (marks : List Path) (p q : Prog) (r : Result (Vec ℕ A) CompileRefusal) → marks ≡ [] → p ≡ loops_of m marks → q ≡ p
       → IsWellFormed p → HasLengths m p → IsCorrect m p → IsTextOfAlone (canonical_text (loops_of m marks)) (loops_of m marks)
-      → nests_of_program (loops_of m marks) ≡ module_nest m marks → MatchResult r (λ text. text.items ≡ canonical_text q) (λ refusal. refusal ≡ Memory)
+      → nests_of_program p ≡ module_nest m marks → final_fault m [] [] ≡ None → MatchResult r (λ text. text.items ≡ canonical_text q) (λ refusal. refusal ≡ Memory)
       → MatchResult r (λ text. AreLoops m text.items) (λ refusal. refusal ≡ Memory)
-  are_loops m marks p q (Ok text) none loops same formed lengths correct text_of nests prints =
+  are_loops m marks p q (Ok text) none loops same formed lengths correct text_of nests accepted prints =
       let z : text.items ≡ canonical_text p = prints ∙ ap canonical_text same in
       let own = subst (λ (x : Prog). IsTextOfAlone (canonical_text x) x) (sym loops) text_of in
       let whole = subst (λ (t : List ℕ). IsTextOfAlone t p) (sym z) own in
       record {
+        accepted = accepted;
         program = p;
         loops = loops ∙ ap (loops_of m) none;
         prints = z;
         reads_back = whole.is;
         alone = whole.alone;
-        nests = ap nests_of_program loops ∙ nests ∙ ap (module_nest m) none;
+        nests = nests ∙ ap (module_nest m) none;
         formed = formed;
         lengths = lengths;
         correct = correct;
       }
-  are_loops m marks p q (Err e) none loops same formed lengths correct text_of nests h = h
+  are_loops m marks p q (Err e) none loops same formed lengths correct text_of nests accepted h = h
 
   -- of a module that may be lowered
   pub lowered_answers : (m : Module) (r : Result (Vec ℕ A) CompileRefusal) → final_fault m [] [] ≡ None

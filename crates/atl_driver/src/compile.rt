@@ -36,7 +36,7 @@ impl<T: Drop> From<AllocFailed<T>> for CompileRefusal {
     }
 }
 
-/// The C text of a source, or its first fault. Time is that of `read_module`, and linear in the text.
+/// The C text of a source, or its first fault. Time is that of `read_module`, `admit`, `judge`, `lower` and `print_c`.
 #[tactic(none)]
 pub fn compile_bytes(alloc: Global, source: &[u8]) -> Result<Vec<u8>, CompileRefusal>
     requires { length source.now ≤ 2147483647 }

@@ -38,6 +38,7 @@ fn printed(alloc: Global, program: &Prog) -> Result<Vec<u8>, CompileRefusal>
 
 /// The text of the loops of a module that may be lowered.
 fn text_of(alloc: Global, last: &Final) -> Result<Vec<u8>, CompileRefusal>
+    requires lines { «last».now.1 ≡ [] }
     requires marks { «last».now.2 ≡ [] }
     requires depths { All (λ o. node_depth o.term ≤ 200) «last».now.0.outputs }
     requires sizes { length «last».now.0.sizes ≤ 2147483647 }

@@ -8,6 +8,7 @@ ghost use Rattle.shape_rules.specs.Fits.{LiteralsFit};
 ghost use Rattle.term_tree.specs.Modules.{IsSound};
 ghost use Rattle.final_rules.specs.Rules.{any_let, output_extents};
 ghost use Rattle.lowering_laws.specs.Correct.{HasLengths, IsCorrect};
+ghost use Rattle.lowering_laws.specs.Nest.{module_nest, nests_of_program};
 ghost use Rattle.lowering_laws.specs.Lowered.{loops_of, program_of, region_length, scratch_lengths, scratch_many, words_tree};
 ghost use Rattle.lowering.specs.Outputs.{ModuleReady, outer_scene};
 
@@ -120,8 +121,8 @@ fn program(alloc: Global, module: &Module, paths: &[Path]) -> Result<Boxed<Prog>
     )
 }
 
-/// The loops of a module that may be lowered: for each output a fill and the statements of its term, with one scratch region for all lets. Linear in the terms, and for each leaf in
-/// the nodes around it.
+/// The loops of a module that may be lowered: for each output a fill and the statements of its term, with one scratch region for all lets. Each node costs
+/// a copy of what is around it, of which at most 200 nodes are, and the shapes of its parts; beside that the time is linear in the terms and in the text.
 pub fn lower(alloc: Global, last: &Final) -> Result<Boxed<Prog>, AllocError>
     requires sizes { length last.now.0.sizes ≤ 2147483647 }
     requires inputs { length last.now.0.inputs ≤ 2147483647 }
@@ -130,6 +131,8 @@ pub fn lower(alloc: Global, last: &Final) -> Result<Boxed<Prog>, AllocError>
     ensures formed { IfOk result (λ p. IsWellFormed p) }
     ensures lengths { IfOk result (λ p. HasLengths last.now.0 p) }
     ensures correct { IfOk result (λ p. IsCorrect last.now.0 p) }
+    // Its loops, without places and fills, are those of the module and no others.
+    ensures nests { IfOk result (λ p. nests_of_program p ≡ module_nest last.now.0 last.now.2) }
     // The literals of a module are words, by their type.
     ensures literals { All (λ o. LiteralsFit o.term) last.now.0.outputs }
 {

@@ -3,7 +3,9 @@ use Rattle.loop_lang.specs.Form.{IsWellFormed}
 use Rattle.loop_lang.specs.declared.stmt.Prog.{Prog}
 use Rattle.lowering_laws.specs.Correct.{HasLengths, IsCorrect}
 use Rattle.lowering_laws.specs.Lowered.{loops_of, program_of}
+use Rattle.lowering_laws.specs.Nest.{module_nest, nests_of_program}
 use Rattle.lowering_laws.proofs.Joined.{lengths_are_right, loops_are_right}
+use Rattle.lowering_laws.proofs.PrintedBack.{nests_agree}
 use Rattle.lowering_laws.proofs.WellFormed.{accepted_is_formed}
 use Rattle.lowering.specs.Outputs.{ModuleReady}
 use Rattle.lowering.proofs.LiteralLaws.{each-output}
@@ -42,3 +44,10 @@ returns-clause-correct c =
 pub returns-clause-literals : goal.returns-clause-literals
 returns-clause-literals c =
     each-output c.args.last.now.0 c.last-module.result.now c.as_slice.result.now c.last-module.ensures c.as_slice.ensures c.told_from.ensures
+
+pub returns-clause-nests : goal.returns-clause-nests
+returns-clause-nests c =
+    if-ok-as c.program.result (program_of c.args.last.now.0 c.args.last.now.2)
+    (λ p. nests_of_program p ≡ module_nest c.args.last.now.0 c.args.last.now.2)
+    (subst (λ (q : Prog). IfOk c.program.result (λ p. p ≡ q)) (λ i. program_of (c.last-module.ensures i) (c.parallel.ensures i)) c.program.ensures)
+    (nests_agree c.args.last.now.0 c.args.last.now.1 c.args.last.now.2 c.told.ensures)
