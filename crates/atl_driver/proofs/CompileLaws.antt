@@ -44,7 +44,8 @@ module _ {A : Type 0} where
   -- the text of a program that is lowered from the module, whose printed text stands for it alone
   pub are_loops : (m : Module) (marks : List Path) (p q : Prog) (r : Result (Vec ℕ A) CompileRefusal) → marks ≡ [] → p ≡ loops_of m marks → q ≡ p
       → IsWellFormed p → HasLengths m p → IsCorrect m p → IsTextOfAlone (canonical_text (loops_of m marks)) (loops_of m marks)
-      → nests_of_program p ≡ module_nest m marks → final_fault m [] [] ≡ None → MatchResult r (λ text. text.items ≡ canonical_text q) (λ refusal. refusal ≡ Memory)
+      → nests_of_program p ≡ module_nest m marks → final_fault m [] [] ≡ None
+      → MatchResult r (λ text. text.items ≡ canonical_text q) (λ refusal. refusal ≡ Memory)
       → MatchResult r (λ text. AreLoops m text.items) (λ refusal. refusal ≡ Memory)
   are_loops m marks p q (Ok text) none loops same formed lengths correct text_of nests accepted prints =
       let z : text.items ≡ canonical_text p = prints ∙ ap canonical_text same in

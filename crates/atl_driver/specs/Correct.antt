@@ -22,7 +22,8 @@ use Rattle.atl_driver.specs.declared.command.Verb.TheVariants.{Compile}
 use Rattle.atl_driver.specs.declared.fault.Fault.{Fault}
 use Rattle.atl_driver.specs.Compile.{admission_fault_of, fault_of, final_fault_of, first_content}
 
--- The module keeps the rules of the final form. The text is the canonical text of its loops, and reads back as that program alone, by the grammar of C texts. The program is well formed, and
+-- The module keeps the rules of the final form. The text is the canonical text of its loops, and reads back as that program alone, by the grammar of C texts.
+-- The program is well formed, and
 -- its loops, without places and fills, are those of the module and no others. Its printed lengths are the numbers of words of the module's tensors and of
 -- the scratch region, and its every run at all allowed sizes, on inputs and scratch of these lengths and whatever outputs and scratch hold, ends, touches no
 -- index outside a buffer, and leaves in the outputs exactly the words that the module denotes.
