@@ -14,14 +14,14 @@ use Rattle.term_tree.specs.declared.term.Path.{Path}
 use Rattle.term_tree.specs.declared.term.Term.{Term, out-Term}
 use Rattle.path_focus.specs.Focus.{IsProper, focus_at, focus_of, plugged_in, way_to, with_term}
 use Rattle.path_focus.specs.Frames.{Opened, Way, behind, filled, opened, plugged, refilled, way}
-use Rattle.path_focus.specs.Laws.{IsLimited, IsOrdered, IsThere, KeepsModule}
+use Rattle.path_focus.specs.Laws.{IsLimited, IsOfWords, IsOrdered, IsThere, KeepsModule, KeepsShapes}
 use Rattle.path_focus.specs.Trail.{MayGo, Reaches, filled_level, focus_by, start_of, trailed}
 use Rattle.path_focus.specs.declared.place.Focus.{Focus}
 use Rattle.path_focus.specs.declared.place.PathRefusal.{PathRefusal}
 use Rattle.path_focus.specs.declared.place.PathRefusal.TheVariants.{Memory}
 use Rattle.path_focus.specs.declared.trail.Trail.{Trail}
 use Rattle.path_focus.proofs.FocusLaws.{focus_is_proper}
-use Rattle.path_focus.proofs.ModuleLaws.{length-map, output_scope, plug_keeps, some_at}
+use Rattle.path_focus.proofs.ModuleLaws.{length-map, output_scope, plug_keeps, plug_shapes, some_at}
 use Rattle.path_focus.proofs.TrailLaws.{focus_told, goes_on, opened_at, opened_filled, reached_way, steps_are}
 
 -- the trail may go into the term of an output
@@ -59,14 +59,16 @@ in_output m p o r h g = subst (λ (x : Option Focus). IsThere x r)
 pub no_output : (m : Module) (p : Path) → slice_get m.outputs p.output ≡ None → focus_of m p ≡ None
 no_output m p h = ap (λ x. option_map (focus_at m) (option_and_then (λ (o : OutputDecl). way o.term p.steps) x)) h
 
-proper_of : (m : Module) → IsSound m → IsOrdered m → IsLimited m → (p : Path) (x : Option Way) → way_to m p ≡ x → (f : Focus)
+proper_of : (m : Module) → IsSound m → IsOrdered m → IsOfWords m → IsLimited m → (p : Path) (x : Option Way) → way_to m p ≡ x → (f : Focus)
     → option_map (focus_at m) x ≡ Some f → IsProper f
-proper_of m sound ordered limited p (Some w) h f e = let q : focus_at m w ≡ f = cc in subst IsProper q (focus_is_proper m sound ordered limited p w h)
-proper_of m sound ordered limited p None h f e = absurd (cc)
+proper_of m sound ordered literals limited p (Some w) h f e =
+    let q : focus_at m w ≡ f = cc in subst IsProper q (focus_is_proper m sound ordered literals limited p w h)
+proper_of m sound ordered literals limited p None h f e = absurd (cc)
 
-pub proper_there : (m : Module) (p : Path) (r : Result Focus PathRefusal) → IsSound m → IsOrdered m → IsLimited m → IsThere (focus_of m p) r → IfOk r IsProper
-proper_there m p (Ok f) sound ordered limited h = proper_of m sound ordered limited p (way_to m p) refl f h
-proper_there m p (Err e) sound ordered limited h = tt
+pub proper_there : (m : Module) (p : Path) (r : Result Focus PathRefusal) → IsSound m → IsOrdered m → IsOfWords m → IsLimited m → IsThere (focus_of m p) r
+    → IfOk r IsProper
+proper_there m p (Ok f) sound ordered literals limited h = proper_of m sound ordered literals limited p (way_to m p) refl f h
+proper_there m p (Err e) sound ordered literals limited h = tt
 
 -- one node more in front of a way with a new term at its end
 module _ (new : Term) where
@@ -149,6 +151,12 @@ unplugged m p o new h g =
 pub unplugged_output : (m : Module) (p : Path) (new : Term) → slice_get m.outputs p.output ≡ None → plugged_in m p new ≡ None
 unplugged_output m p new h = ap (option_and_then (λ o. option_map (λ e. record m { outputs = with_term m.outputs p.output e }) (plugged o.term p.steps new))) h
 
-pub keeps_there : (m : Module) (p : Path) (new : Term) (r : Result Module PathRefusal) → IsThere (plugged_in m p new) r → IfOk r (KeepsModule m p new)
-keeps_there m p new (Ok m') h = λ sound ordered w way keeps. plug_keeps m sound ordered p w way new keeps m' h
-keeps_there m p new (Err e) h = tt
+pub keeps_there : (m : Module) (p : Path) (new : Term) (r : Result Module PathRefusal) → IsOrdered m → IsOfWords m → IsThere (plugged_in m p new) r
+    → IfOk r (KeepsModule m p new)
+keeps_there m p new (Ok m') ordered literals h = λ sound w way keeps. plug_keeps m sound ordered literals p w way new keeps m' h
+keeps_there m p new (Err e) ordered literals h = tt
+
+pub shapes_there : (m : Module) (p : Path) (new : Term) (r : Result Module PathRefusal) → IsOrdered m → IsThere (plugged_in m p new) r
+    → IfOk r (KeepsShapes m p new)
+shapes_there m p new (Ok m') ordered h = λ sound w way keeps. plug_shapes m sound ordered p w way new keeps m' h
+shapes_there m p new (Err e) ordered h = tt

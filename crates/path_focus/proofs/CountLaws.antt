@@ -4,18 +4,22 @@ use Rattle.affine_index.specs.Limited.{items_scoped}
 use Rattle.affine_index.specs.Put.{given as given_form}
 use Rattle.affine_index.specs.declared.form.Items.{Items}
 use Rattle.binders.specs.Answers.{IsWithinReach}
-use Rattle.binders.specs.PlainMaps.{put_index_reach}
-use Rattle.binders.proofs.ReachLaws.{put_index_within}
+use Rattle.binders.specs.PlainMaps.{put_index_reach, shift_reach}
+use Rattle.binders.proofs.ReachLaws.{put_index_within, shift_within}
+use Rattle.fact_list.specs.Facts.{binders}
+use Rattle.fact_list.specs.declared.facts.PathFact.{PathFact}
 use Rattle.fact_list.specs.declared.facts.PathFact.TheVariants.{Bound as Below, Holds}
+use Rattle.shape_rules.specs.Scopes.{given}
 use Rattle.term_tree.specs.Counts.{node_count, node_depth}
 use Rattle.term_tree.specs.Scope.{term_scoped}
 use Rattle.term_tree.specs.Shape.{Extents}
 use Rattle.term_tree.specs.Syntax.{index, gen, sum, guard, let_in, add, sub, mul, concat, flatten, split, transpose, trunc_l, trunc_r, pad_l, pad_r}
 use Rattle.term_tree.specs.declared.term.Term.{Term, Lit, TVar, WordOf}
-use Rattle.path_focus.specs.Focus.{AllApart, Each}
+use Rattle.path_focus.specs.Focus.{AllApart, Each, IsFew}
 use Rattle.path_focus.specs.Frames.{Frame, OfIndex, OfGen, OfSum, OfGuard, OfDefinition, OfBody, AddLeft, AddRight, SubLeft, SubRight, MulLeft, MulRight}
 use Rattle.path_focus.specs.Frames.{ConcatLeft, ConcatRight, OfFlatten, OfSplit, OfTranspose, OfTruncL, OfTruncR, OfPadL, OfPadR, filled, refilled}
 use Rattle.path_focus.specs.Places.{Around, Definition, at_end, below, moved_lets, under_index}
+use Rattle.path_focus.specs.declared.place.Focus.{Focus}
 
 -- a node has more nodes than its child
 pub child_fewer : (e : Term) (f : Frame) → suc (node_count e) ≤ node_count (filled f e)
@@ -132,3 +136,28 @@ one_put sizes vars tensors x b few small h k =
     forms : (j : ℕ) → j < 1 → items_scoped sizes vars (given_form (x ∷ []) j) ≡ true
     forms zero l = h
     forms (suc j) l = absurd (omega (arith, l))
+
+-- a term in scope may be moved under more variables
+pub moved_reach : (a b sizes vars tensors : ℕ) (e : Term) → a ≤ 20000 → b ≤ 20000 → vars ≤ 2147523647 → tensors ≤ 2147523647 → node_count e ≤ 20000
+    → term_scoped sizes e vars tensors ≡ true
+    → (node_depth e ≤ 2147483647) × IsWithinReach (shift_reach a b) e
+moved_reach a b sizes vars tensors e f g u t small h =
+    let d = depth_nodes e in
+    (omega (arith, d, small), shift_within a b sizes vars tensors e (omega (arith, d, small, f, u)) (omega (arith, d, small, g, t)) h)
+
+-- no more binders than facts
+pub binders_few : (ps : List PathFact) → binders ps ≤ length ps
+binders_few [] = omega arith
+binders_few (Below n ∷ ps) = let h = binders_few ps in omega (arith, h)
+binders_few (Holds c ∷ ps) = let h = binders_few ps in omega (arith, h)
+
+length_both : (xs ys : List Extents) → length (xs ++ ys) ≡ length xs + length ys
+length_both [] ys = omega arith
+length_both (x ∷ xs) ys = let h = length_both xs ys in omega (arith, h)
+
+-- the variables of a focus, and its tensor variables
+pub vars_few : (f : Focus) → IsFew f → binders f.facts.path ≤ 2147483647
+vars_few f h = let k = binders_few f.facts.path in omega (arith, k, h.path)
+
+pub given_few : (f : Focus) → IsFew f → length (given f.shapes) ≤ 2147503647
+given_few f h = let k = length_both f.shapes.lets f.shapes.inputs in omega (arith, k, h.lets, h.inputs)

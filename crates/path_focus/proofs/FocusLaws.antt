@@ -19,6 +19,7 @@ use Rattle.term_tree.specs.declared.term.OutputDecl.{OutputDecl}
 use Rattle.term_tree.specs.declared.term.Path.{Path}
 use Rattle.term_tree.specs.declared.term.SizeDecl.{SizeDecl}
 use Rattle.term_tree.specs.declared.term.Term.{Term}
+use Rattle.shape_rules.specs.Fits.{LiteralsFit}
 use Rattle.shape_rules.specs.Values.{AllHaveValues, HaveValues, NoneNegative}
 use Rattle.shape_rules.proofs.ModuleLaws.{module_free, sound_goals}
 use Rattle.shape_rules.proofs.ProgressLaws.{ok_is}
@@ -28,8 +29,9 @@ use Rattle.path_focus.specs.Laws.{FocusIsProper, IsLimited}
 use Rattle.path_focus.specs.Places.{at_end, no_way}
 use Rattle.path_focus.specs.declared.place.BoundLet.{BoundLet}
 use Rattle.path_focus.proofs.CountLaws.{end_lets, end_many, end_path, moved_apart, moved_below, way_fewer}
-use Rattle.path_focus.proofs.ModuleLaws.{Found, bounds_length, bounds_of, length-map, output_goals, settled, some_at, there_valued, way_found}
+use Rattle.path_focus.proofs.ModuleLaws.{Found, bounds_length, bounds_of, found_words, length-map, output_goals, settled, some_at, there_valued, way_found}
 use Rattle.path_focus.proofs.ProperLaws.{all_fit, fine_end}
+use Rattle.path_focus.proofs.WordLaws.{end_definitions, end_literals}
 
 length_more : (xs : List ℕ) (n : ℕ) → length (xs ++ n ∷ []) ≡ suc (length xs)
 length_more [] n = refl
@@ -76,6 +78,10 @@ each_of : (P Q : BoundLet → Type 0) (bs : List BoundLet) → ((b : BoundLet) �
 each_of P Q [] f h = tt
 each_of P Q (b ∷ bs) f h = (f b h.0, each_of P Q bs f h.1)
 
+each_both : (P Q R : BoundLet → Type 0) (bs : List BoundLet) → ((b : BoundLet) → P b → Q b → R b) → Each P bs → Each Q bs → Each R bs
+each_both P Q R [] f h k = tt
+each_both P Q R (b ∷ bs) f h k = (f b h.0 k.0, each_both P Q R bs f h.1 k.1)
+
 inputs_scope : (sizes : ℕ) (ds : List InputDecl) → inputs_scoped sizes ds ≡ true → shapes_scoped sizes (map (λ d. d.extents) ds) ≡ true
 inputs_scope sizes [] h = refl
 inputs_scope sizes (d ∷ ds) h =
@@ -93,7 +99,7 @@ whole_small m limited p w g = subst (λ (e : Term). node_count e ≤ 20000) (sym
     (some_at (λ (o : OutputDecl). node_count o.term ≤ 20000) m.outputs p.output g.output g.stands limited.nodes)
 
 pub focus_is_proper : FocusIsProper
-focus_is_proper m sound ordered limited p w h =
+focus_is_proper m sound ordered literals limited p w h =
     let g = way_found m p w h in
     let f = fine_end (length m.sizes) 20000 (Allowed m) (input_shapes m) w.term w.frames no_way (record {
       settled = settled m sound ordered p.output g.output g.stands w g.whole;
@@ -108,14 +114,17 @@ focus_is_proper m sound ordered limited p w h =
     let z = at_end (input_shapes m) w.frames no_way in
     let fits = all_fit (length m.sizes) 20000 (Allowed m) (binders z.path) (z.lets ++ input_shapes m) 0 z.definitions f.placed in
     let same = sym (bounds_length m.sizes) in
+    let words : LiteralsFit (refilled w.frames w.term) = subst LiteralsFit (sym g.whole) (found_words m literals p w g) in
     record {
       shaped = ok_is (shape_of w.term (z.lets ++ input_shapes m)) f.settled.shape.0 f.settled.shape.1;
       small = f.small;
-      definitions = each_of _ _ (focus_at m w).bound (λ b k. record {
+      literals = end_literals w.term w.frames words;
+      definitions = each_both _ (λ b. LiteralsFit b.term) _ (focus_at m w).bound (λ b k l. record {
         shaped = k.shaped;
         small = k.small;
         scoped = subst (λ n. term_scoped n b.term (binders z.path) (length (z.lets ++ input_shapes m)) ≡ true) same k.scoped;
-      }) fits;
+        literals = l;
+      }) fits (end_definitions (input_shapes m) w.term w.frames no_way words tt);
       extents = λ s a. each_not_negative s (z.lets ++ input_shapes m) _
           (there_valued m sound ordered p.output g.output g.stands w g.whole s (allowed_from m w s a)).values;
       goals = λ s a. f.goals s (allowed_from m w s a);

@@ -8,6 +8,7 @@ pub mod FocusMeaning
 pub mod FrameLaws
 pub mod GoalLaws
 pub mod KnownLaws
+pub mod LiteralLaws
 pub mod MakingLaws
 pub mod ModuleLaws
 pub mod MovedLaws
@@ -15,6 +16,8 @@ pub mod PlaceLaws
 pub mod ProperLaws
 pub mod PutLaws
 pub mod ShapeScopes
+pub mod ShapeSteps
 pub mod SteadyLaws
 pub mod TrailLaws
 pub mod WayLaws
+pub mod WordLaws

@@ -1,5 +1,6 @@
 -- What holds at a focus, and when a term may stand in place of another there.
-use Rattle.std.specs.Prelude.{◌≡◌, ◌≢◌, ℕ, zero, suc, ◌≤◌, ◌<◌, List, [], ◌∷◌, length, map, get_or, Bool, true, ◌&&◌, IsOk, Ok, Option, Some, None, slice_get}
+use Rattle.std.specs.Prelude.{◌≡◌, ◌≢◌, ℕ, zero, suc, ◌≤◌, ◌<◌, List, [], ◌∷◌, length, map, get_or, Bool, true, ◌&&◌, IsOk, Ok, Err, Option}
+use Rattle.std.specs.Prelude.{Some, None, slice_get}
 use Rattle.std.specs.Option.{option_and_then, option_map}
 use Rattle.affine_index.specs.Condition.{all_hold}
 use Rattle.affine_index.specs.declared.form.Items.{Items}
@@ -7,7 +8,7 @@ use Rattle.fact_list.specs.Facts.{binders}
 use Rattle.fact_list.specs.Scoped.{facts_scoped}
 use Rattle.fact_list.specs.Truth.{FactsHold, HoldsAtPlace, SizesWithin}
 use Rattle.fact_list.specs.declared.facts.Facts.{Facts}
-use Rattle.shape_rules.specs.Fits.{AllShaped}
+use Rattle.shape_rules.specs.Fits.{AllShaped, AllWords, LiteralsFit}
 use Rattle.shape_rules.specs.Scopes.{all_free, given}
 use Rattle.shape_rules.specs.Values.{AllHaveValues, NoneNegative}
 use Rattle.term_tree.specs.Counts.{node_count}
@@ -15,7 +16,9 @@ use Rattle.term_tree.specs.Goals.{term_goals}
 use Rattle.term_tree.specs.Meaning.{dims, den, Bound, no_bound, extents_of}
 use Rattle.term_tree.specs.Modules.{extents_scoped, input_shapes}
 use Rattle.term_tree.specs.Scope.{term_scoped}
-use Rattle.term_tree.specs.Shape.{Extents, shape_of}
+use Rattle.term_tree.specs.Shape.{Extents, Shaped, shape_of}
+use Rattle.term_tree.specs.declared.cause.Cause.{Cause}
+use Rattle.term_tree.specs.declared.cause.Cause.TheVariants.{RankTooLarge, CoefficientTooLarge, IndexTooLong}
 use Rattle.term_tree.specs.declared.term.Module.{Module}
 use Rattle.term_tree.specs.declared.term.OutputDecl.{OutputDecl}
 use Rattle.term_tree.specs.declared.term.Path.{Path}
@@ -75,6 +78,7 @@ pub record Reached (f : Focus) (s r : List ℕ) (t : List Bound) : Type 0 where
   pub facts : FactsHold f.facts s r
   pub extents : AllHaveValues s (given f.shapes) (extents_of t)
   pub shaped : AllShaped t
+  pub words : AllWords t
   pub lets : LetsHold s r t f.bound
 
 -- a term may stand in place of the term of the focus
@@ -84,15 +88,28 @@ pub record KeepsMeaning (f : Focus) (new : Term) : Type 0 where
   pub goals : (s : List ℕ) (ds : List (List ℕ)) → AllowedBy f.facts s → AllHaveValues s (given f.shapes) ds → GoalsFit new s ds
   pub meaning : (s r : List ℕ) (t : List Bound) → AllowedBy f.facts s → Reached f s r t → den new s r t ≡ den f.term s r t
 
--- where the shape rules hold in the new term, it has the shape of the term of the focus
-abbrev pub KeepsShape : Focus → Term → Type 0
-KeepsShape f new = IsOk (shape_of new (given f.shapes)) → shape_of new (given f.shapes) ≡ shape_of f.term (given f.shapes)
+-- the cause is a limit of ranks or forms
+abbrev pub IsLimitCause : Cause → Type 0
+IsLimitCause RankTooLarge = Unit {0}
+IsLimitCause CoefficientTooLarge = Unit {0}
+IsLimitCause IndexTooLong = Unit {0}
+IsLimitCause _ = ⊥
 
--- a definition has the shape of its variable, few nodes and the scope of the focus
+-- a new shape is the old one, or a limit is broken on the way to it
+abbrev pub SameOrLimit : Shaped → Shaped → Type 0
+SameOrLimit old (Ok ns) = old ≡ Ok ns
+SameOrLimit old (Err m) = IsLimitCause m.cause
+
+-- the new term has the shape of the term of the focus, or breaks a limit; no rank in it is wrong, and no two shapes in it differ
+abbrev pub KeepsShape : Focus → Term → Type 0
+KeepsShape f new = SameOrLimit (shape_of f.term (given f.shapes)) (shape_of new (given f.shapes))
+
+-- a definition has the shape of its variable, few nodes, the scope of the focus, and literals below 2^64
 pub record DefinitionFits (f : Focus) (b : BoundLet) : Type 0 where
   pub shaped : shape_of b.term (given f.shapes) ≡ Ok (get_or (given f.shapes) b.var [])
   pub small : node_count b.term ≤ 20000
   pub scoped : term_scoped (length f.facts.sizes) b.term (binders f.facts.path) (length (given f.shapes)) ≡ true
+  pub literals : LiteralsFit b.term
 
 -- so for each
 abbrev pub Each : (BoundLet → Type 0) → List BoundLet → Type 0
@@ -109,11 +126,11 @@ abbrev pub AllApart : List BoundLet → Type 0
 AllApart [] = Unit {0}
 AllApart (b ∷ bs) = Each (λ c. c.var ≢ b.var) bs × AllApart bs
 
--- few enough sizes, nodes on the path, lets and inputs for their numbers to be moved
+-- few enough sizes, nodes on the path, lets and inputs for their numbers to be moved; lets and inputs together, too
 pub record IsFew (f : Focus) : Type 0 where
   pub sizes : length f.facts.sizes ≤ 2147483647
   pub path : length f.facts.path ≤ 2147483647
-  pub lets : length f.shapes.lets ≤ 2147483647
+  pub lets : length f.shapes.lets ≤ 20000
   pub inputs : length f.shapes.inputs ≤ 2147483647
 
 -- the extents of shapes hold so many sizes alone
@@ -125,6 +142,7 @@ shapes_scoped sizes (ns ∷ ts) = extents_scoped sizes ns && shapes_scoped sizes
 pub record IsProper (f : Focus) : Type 0 where
   pub shaped : IsOk (shape_of f.term (given f.shapes))
   pub small : node_count f.term ≤ 20000
+  pub literals : LiteralsFit f.term
   pub definitions : Each (DefinitionFits f) f.bound
   pub extents : (s : List ℕ) → AllowedBy f.facts s → EachNotNegative s (given f.shapes)
   pub goals : (s : List ℕ) → AllowedBy f.facts s → NoneNegative s (term_goals f.term (given f.shapes))

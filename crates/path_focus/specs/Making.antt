@@ -1,10 +1,10 @@
--- What rules make: a body with a form for its variable, raw forms, and conditions of a number that is to be at least 0.
+-- What rules make: a body with a form for its variable, a term under more variables, raw forms, and conditions of a number that is to be at least 0.
 use Rattle.std.specs.Prelude.{ℕ, List, [], ◌∷◌, pos}
 use Rattle.affine_index.specs.Form.{literal_form}
 use Rattle.affine_index.specs.Sum.{difference_of, scaled, sum_of}
 use Rattle.affine_index.specs.declared.form.Items.{Items}
 use Rattle.binders.specs.Maps.{mapped}
-use Rattle.binders.specs.PlainMaps.{put_index_map}
+use Rattle.binders.specs.PlainMaps.{put_index_map, shift_map}
 use Rattle.fact_list.specs.Facts.{where_normal}
 use Rattle.fact_list.specs.declared.facts.Facts.{Facts}
 use Rattle.term_tree.specs.Shape.{tiles}
@@ -18,6 +18,14 @@ with_index x b = mapped (put_index_map (x ∷ []) 0) 0 0 b
 -- the body without its gen or sum; where it is free of the variable, any form may stand for it
 abbrev pub lowered : Term → Term
 lowered b = with_index (literal_form (pos 0)) b
+
+-- a term under one more gen or sum
+abbrev pub raised : Term → Term
+raised e = mapped (shift_map 1 0) 0 0 e
+
+-- a term under one more let
+abbrev pub under_let : Term → Term
+under_let e = mapped (shift_map 0 1) 0 0 e
 
 -- n - 1 - x
 abbrev pub rest_below : Items → Items → Items

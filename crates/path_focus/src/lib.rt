@@ -5,6 +5,7 @@ pub mod forms;
 pub mod laws;
 pub mod making;
 mod outcome;
+mod outputs;
 mod place;
 mod plugging;
 mod reaching;

@@ -6,17 +6,18 @@ ghost use Rattle.affine_index.specs.Normal.{Refused, coefficient_fits};
 ghost use Rattle.affine_index.specs.declared.form.Items as form;
 ghost use Rattle.binders.specs.Answers.{IsWithinLimits, IsWithinReach};
 ghost use Rattle.binders.specs.Maps.{mapped};
-ghost use Rattle.binders.specs.PlainMaps.{put_index_map, put_index_reach};
+ghost use Rattle.binders.specs.PlainMaps.{put_index_map, put_index_reach, shift_map, shift_reach};
 ghost use Rattle.fact_list.specs.Facts.{where_normal};
-ghost use Rattle.path_focus.specs.Making.{lowered, one_of_rows, owed, rest_below, with_index};
+ghost use Rattle.path_focus.specs.Making.{lowered, one_of_rows, owed, raised, rest_below, under_let, with_index};
 ghost use Rattle.path_focus.specs.Outcome.{IsDraft};
-ghost use Rattle.term_tree.specs.Counts.{node_depth};
+ghost use Rattle.term_tree.specs.Counts.{node_count, node_depth};
 
 use crate::forms::rest_below;
 use crate::outcome::Draft;
 use crate::rule::Condition;
+use crate::trail::moved as moved_copy;
 use affine_index::{Aff, AffRefusal};
-use binders::{MapRefusal, PutIndex, map_term};
+use binders::{MapRefusal, PutIndex, Shift, map_term};
 use fact_list::{CertRefusal, Facts, copy_facts};
 use sqlite_items::{Boxed, Items};
 use std::alloc::Global;
@@ -94,6 +95,47 @@ pub fn lowered(alloc: Global, body: &Term) -> Result<Draft, CertRefusal>
 {
     let zero = literal(alloc, 0)?;
     with_index(alloc, zero, body)
+}
+
+/// A copy of a term under so many more gens and sums and lets; moving keeps its forms within the limits.
+pub fn moved(alloc: Global, by: Shift, term: &Term) -> Result<Boxed<Term>, CertRefusal>
+    requires deep { node_depth term.now ≤ 2147483647 }
+    requires small { node_count term.now ≤ 20000 }
+    requires within { IsWithinReach (shift_reach by.index by.tensor) term.now }
+    ensures { IfOk result (λ e. e ≡ mapped (shift_map by.index by.tensor) 0 0 term.now) }
+{
+    match moved_copy(alloc, by, term) {
+        Ok(term) => Ok(term),
+        Err(_) => Err(CertRefusal::Memory),
+    }
+}
+
+/// A copy of a term under one more gen or sum.
+pub fn raised(alloc: Global, term: &Term) -> Result<Boxed<Term>, CertRefusal>
+    requires deep { node_depth term.now ≤ 2147483647 }
+    requires small { node_count term.now ≤ 20000 }
+    requires within { IsWithinReach (shift_reach 1 0) term.now }
+    ensures { IfOk result (λ e. e ≡ raised term.now) }
+{
+    let by = Shift {
+        index: 1,
+        tensor: 0,
+    };
+    moved(alloc, by, term)
+}
+
+/// A copy of a term under one more let.
+pub fn under_let(alloc: Global, term: &Term) -> Result<Boxed<Term>, CertRefusal>
+    requires deep { node_depth term.now ≤ 2147483647 }
+    requires small { node_count term.now ≤ 20000 }
+    requires within { IsWithinReach (shift_reach 0 1) term.now }
+    ensures { IfOk result (λ e. e ≡ under_let term.now) }
+{
+    let by = Shift {
+        index: 0,
+        tensor: 1,
+    };
+    moved(alloc, by, term)
 }
 
 /// What index arithmetic has made, where it is within the limits.

@@ -3,10 +3,11 @@
 ghost use Rattle.std.specs.Prelude.{◌≡◌, ◌<◌, IfOk, MatchResult, length};
 ghost use Rattle.path_focus.specs.Focus.{plugged_in, with_term};
 ghost use Rattle.path_focus.specs.Frames.{plugged};
-ghost use Rattle.path_focus.specs.Laws.{IsThere, KeepsModule};
+ghost use Rattle.path_focus.specs.Laws.{IsThere, KeepsModule, KeepsShapes};
 ghost use Rattle.path_focus.specs.Trail.{filled_level, first_of, second_of};
 ghost use Rattle.term_tree.specs.declared.term.Term.{out-Term};
 
+use crate::outputs::{forms_told_of, literals_told_of};
 use crate::place::PathRefusal;
 use crate::trail::{boxed, child, copied, copied_cond};
 use fact_list::copy_cmps;
@@ -240,7 +241,10 @@ pub fn plug(
 ) -> Result<Module, PathRefusal>
     ensures plugged { IsThere (plugged_in «module».now path.now term) result }
     ensures keeps { IfOk result (λ m. KeepsModule «module».now path.now term m) }
+    ensures shapes { IfOk result (λ m. KeepsShapes «module».now path.now term m) }
 {
+    forms_told_of(module.outputs.as_slice());
+    literals_told_of(module.outputs.as_slice());
     let outputs = module.outputs.as_slice();
     match at(outputs, path.output as usize) {
         None => Err(PathRefusal::NoSuchPath),

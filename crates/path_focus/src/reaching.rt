@@ -1,13 +1,14 @@
 //! The focus at a place of a module.
 
-ghost use Rattle.std.specs.Prelude.{◌≡◌, All, IfOk, MatchResult, map};
+ghost use Rattle.std.specs.Prelude.{◌≡◌, IfOk, MatchResult, map};
 ghost use Rattle.std.specs.Option.{option_map};
 ghost use Rattle.path_focus.specs.Focus.{IsProper, focus_at, focus_of};
 ghost use Rattle.path_focus.specs.Frames.{way};
-ghost use Rattle.path_focus.specs.Laws.{HasOrdered, IsLimited, IsThere};
+ghost use Rattle.path_focus.specs.Laws.{IsLimited, IsThere};
 ghost use Rattle.path_focus.specs.Trail.{MayGo, focus_by, start_of};
 ghost use Rattle.term_tree.specs.Modules.{IsSound, input_shapes};
 
+use crate::outputs::{forms_told_of, literals_told_of};
 use crate::place::{Focus, PathRefusal};
 use crate::trail::Trail;
 use fact_list::Facts;
@@ -15,7 +16,7 @@ use shape_rules::extents::input_shapes;
 use shape_rules::{Shapes, module_facts};
 use sqlite_items::{Boxed, Items, at};
 use std::alloc::Global;
-use term_tree::{InputDecl, Module, OutputDecl, Path, Term, told};
+use term_tree::{InputDecl, Module, Path, Term};
 
 /// The trail before its first node.
 fn start(alloc: Global, declared: &[InputDecl]) -> Result<Trail, PathRefusal>
@@ -65,15 +66,6 @@ fn found(alloc: Global, module: &Module, term: &Term, steps: &[u32]) -> Result<F
     told_by(alloc, module, trail, term)
 }
 
-/// Tells a proof that the forms of the terms are normal.
-fn told_outputs(outputs: &[OutputDecl])
-    ensures { All HasOrdered outputs.now }
-{
-    for output in outputs {
-        told(&output.term);
-    }
-}
-
 /// What is known at a place: the facts there, the shapes of its tensor variables, the lets around it with their definitions
 /// moved there, and a copy of the term. Linear in the module; each let on the way also moves the shapes of those above it.
 pub fn focus(alloc: Global, module: &Module, path: &Path) -> Result<Focus, PathRefusal>
@@ -82,7 +74,8 @@ pub fn focus(alloc: Global, module: &Module, path: &Path) -> Result<Focus, PathR
     ensures focus { IsThere (focus_of «module».now path.now) result }
     ensures proper { IfOk result (λ f. IsProper f) }
 {
-    told_outputs(module.outputs.as_slice());
+    forms_told_of(module.outputs.as_slice());
+    literals_told_of(module.outputs.as_slice());
     match at(module.outputs.as_slice(), path.output as usize) {
         None => Err(PathRefusal::NoSuchPath),
         Some(output) => found(alloc, module, &output.term, path.steps.as_slice()),

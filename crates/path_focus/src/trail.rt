@@ -112,7 +112,7 @@ fn out_of_memory(refusal: MapRefusal) -> PathRefusal
 }
 
 /// A definition under so many more gens and sums and lets; moving keeps its forms within the limits.
-fn moved(alloc: Global, by: Shift, a: &Term) -> Result<Boxed<Term>, PathRefusal>
+pub fn moved(alloc: Global, by: Shift, a: &Term) -> Result<Boxed<Term>, PathRefusal>
     requires deep { node_depth a.now ≤ 2147483647 }
     requires small { node_count a.now ≤ 20000 }
     requires within { IsWithinReach (shift_reach by.index by.tensor) a.now }

@@ -29,6 +29,7 @@ use Rattle.path_focus.specs.declared.rule.Arg.{Arg}
 use Rattle.path_focus.proofs.FocusMeaning.{goal_true}
 use Rattle.path_focus.proofs.MakingLaws.{below_rest, value-rest_below, with_index-extents, with_index-goals, with_index-means, with_index-scoped}
 use Rattle.path_focus.proofs.MakingLaws.{with_index-shape}
+use Rattle.path_focus.proofs.ShapeSteps.{same_shape_there}
 use Rattle.path_focus.proofs.SteadyLaws.{steady_of}
 use Rattle.rules_loop.proofs.Replacing.{Replaces, replaced}
 use Rattle.rules_loop.proofs.ShapeLaws.{never}
@@ -88,7 +89,9 @@ module _ (f : Focus) (n : Items) (b : Term) (x : Items) where
       extents = λ s ds w. with_index-extents x b s ds;
       goals = λ s ds w. with_index-goals x b s ds w.goals.1;
       meaning = λ s r t k h w. same_row s r t k;
-      shape = λ h k. with_index-shape x b (given f.shapes) ∙ row_of_rows n (shape_of b (given f.shapes)) h;
+      shape = λ h.
+          same_shape_there (shape_of (index (gen n b) x) (given f.shapes)) (shape_of (with_index x b) (given f.shapes)) h
+          (with_index-shape x b (given f.shapes) ∙ row_of_rows n (shape_of b (given f.shapes)) h);
     }
 
 -- the rule at each term

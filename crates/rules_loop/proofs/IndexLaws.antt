@@ -95,7 +95,7 @@ module _ (f : Focus) (x : Items) (a b : Term) where
     extents = λ s ds w. refl;
     goals = λ s ds w. w.goals;
     meaning = λ s r t k h w. added_rows s r t h w.fits;
-    shape = λ h k. rows_of_equal (shape_of a (given f.shapes)) (shape_of b (given f.shapes)) h k;
+    shape = λ h. rows_of_equal (shape_of a (given f.shapes)) (shape_of b (given f.shapes)) h;
   }
 
   difference_at_row : Replaces f anywhere (index (sub a b) x) (sub (index a x) (index b x))
@@ -106,7 +106,7 @@ module _ (f : Focus) (x : Items) (a b : Term) where
     extents = λ s ds w. refl;
     goals = λ s ds w. w.goals;
     meaning = λ s r t k h w. subtracted_rows s r t h w.fits;
-    shape = λ h k. rows_of_equal (shape_of a (given f.shapes)) (shape_of b (given f.shapes)) h k;
+    shape = λ h. rows_of_equal (shape_of a (given f.shapes)) (shape_of b (given f.shapes)) h;
   }
 
 add_inside : (f : Focus) → IsProper f → (e : Term) (x : Items) → f.term ≡ index e x → (as' : List Arg)
@@ -149,7 +149,7 @@ module _ (f : Focus) (n x : Items) (b : Term) (ordered : is_ordered x ≡ true) 
     extents = λ s ds w. refl;
     goals = λ s ds w. w.goals;
     meaning = λ s r t k h w. summed_rows_meaning s r t h w.fits;
-    shape = λ h k. summed_row (shape_of b (given f.shapes)) h;
+    shape = λ h. summed_row (shape_of b (given f.shapes)) h;
   }
 
 index_ordered : (e : Term) (x : Items) → AllOrdered (index e x) → is_ordered x ≡ true

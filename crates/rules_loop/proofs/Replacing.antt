@@ -2,14 +2,14 @@
 use Rattle.std.proofs.Common.{◌≡◌, List, [], ℕ, length, ap, sym, ◌∙◌, subst, true, IsOk}
 use Rattle.fact_list.specs.Facts.{binders}
 use Rattle.fact_list.specs.Truth.{FactsHold}
-use Rattle.shape_rules.specs.Fits.{AllShaped, ShapesFit}
+use Rattle.shape_rules.specs.Fits.{AllShaped, AllWords, LiteralsFit, ShapesFit}
 use Rattle.shape_rules.specs.Scopes.{given}
 use Rattle.shape_rules.specs.Values.{AllHaveValues}
 use Rattle.term_tree.specs.Meaning.{Bound, den, dims, extents_of}
 use Rattle.term_tree.specs.Scope.{term_scoped}
 use Rattle.term_tree.specs.Shape.{shape_of}
 use Rattle.term_tree.specs.declared.term.Term.{Term}
-use Rattle.path_focus.specs.Focus.{AllowedBy, IsProper}
+use Rattle.path_focus.specs.Focus.{AllowedBy, IsProper, SameOrLimit}
 use Rattle.path_focus.specs.Numbers.{GoalsFit}
 use Rattle.path_focus.specs.Outcome.{AllTrueGoals, Makes, MeantKeeps}
 use Rattle.path_focus.specs.declared.place.Focus.{Focus}
@@ -22,15 +22,25 @@ pub record Stands (f : Focus) (e : Term) (s : List ℕ) (ds : List (List ℕ)) :
   pub values : AllHaveValues s (given f.shapes) ds
   pub fits : ShapesFit e s ds
   pub goals : GoalsFit e s ds
+  pub literals : LiteralsFit e
 
--- a term may stand in place of another where this is known of sizes and variables
+-- a term may stand in place of another where this is known of sizes and variables, and the tensor variables hold words
+pub record ReplacesWords (f : Focus) (known : List ℕ → List ℕ → Type 0) (e new : Term) : Type 0 where
+  pub scoped : term_scoped (length f.facts.sizes) e (binders f.facts.path) (length (given f.shapes)) ≡ true
+      → term_scoped (length f.facts.sizes) new (binders f.facts.path) (length (given f.shapes)) ≡ true
+  pub extents : (s : List ℕ) (ds : List (List ℕ)) → Stands f e s ds → dims new s ds ≡ dims e s ds
+  pub goals : (s : List ℕ) (ds : List (List ℕ)) → Stands f e s ds → GoalsFit new s ds
+  pub meaning : (s r : List ℕ) (t : List Bound) → known s r → AllShaped t → AllWords t → Stands f e s (extents_of t) → den new s r t ≡ den e s r t
+  pub shape : IsOk (shape_of e (given f.shapes)) → SameOrLimit (shape_of e (given f.shapes)) (shape_of new (given f.shapes))
+
+-- the same whatever they hold
 pub record Replaces (f : Focus) (known : List ℕ → List ℕ → Type 0) (e new : Term) : Type 0 where
   pub scoped : term_scoped (length f.facts.sizes) e (binders f.facts.path) (length (given f.shapes)) ≡ true
       → term_scoped (length f.facts.sizes) new (binders f.facts.path) (length (given f.shapes)) ≡ true
   pub extents : (s : List ℕ) (ds : List (List ℕ)) → Stands f e s ds → dims new s ds ≡ dims e s ds
   pub goals : (s : List ℕ) (ds : List (List ℕ)) → Stands f e s ds → GoalsFit new s ds
   pub meaning : (s r : List ℕ) (t : List Bound) → known s r → AllShaped t → Stands f e s (extents_of t) → den new s r t ≡ den e s r t
-  pub shape : IsOk (shape_of e (given f.shapes)) → IsOk (shape_of new (given f.shapes)) → shape_of new (given f.shapes) ≡ shape_of e (given f.shapes)
+  pub shape : IsOk (shape_of e (given f.shapes)) → SameOrLimit (shape_of e (given f.shapes)) (shape_of new (given f.shapes))
 
 -- nothing is to be known
 abbrev pub anywhere : List ℕ → List ℕ → Type 0
@@ -43,22 +53,34 @@ module _ (f : Focus) (p : IsProper f) (e new : Term) (same : f.term ≡ e) where
     values = h;
     fits = subst (λ (e : Term). ShapesFit e s ds) same (focus_fits f p s ds a h);
     goals = subst (λ (e : Term). GoalsFit e s ds) same (focus_goals f p s ds a h);
+    literals = subst LiteralsFit same p.literals;
   }
 
-  pub replaced : (known : List ℕ → List ℕ → Type 0) (cs : List Condition) → (AllTrueGoals cs → (s r : List ℕ) → FactsHold f.facts s r → known s r)
-      → Replaces f known e new → MeantKeeps f (Makes new cs)
-  replaced known cs knows w = (
+  pub replaced_words : (known : List ℕ → List ℕ → Type 0) (cs : List Condition) → (AllTrueGoals cs → (s r : List ℕ) → FactsHold f.facts s r → known s r)
+      → ReplacesWords f known e new → MeantKeeps f (Makes new cs)
+  replaced_words known cs knows w = (
     (λ true_goals. record {
       scoped =
           w.scoped (subst (λ (e : Term). term_scoped (length f.facts.sizes) e (binders f.facts.path) (length (given f.shapes)) ≡ true) same p.term_scope);
       extents = λ s ds a h. w.extents s ds (stands s ds a h) ∙ ap (λ (e : Term). dims e s ds) (sym same);
       goals = λ s ds a h. w.goals s ds (stands s ds a h);
       meaning = λ s r t a h.
-          w.meaning s r t (knows true_goals s r h.facts) h.shaped (stands s (extents_of t) a h.extents) ∙ ap (λ (e : Term). den e s r t) (sym same);
+          w.meaning s r t (knows true_goals s r h.facts) h.shaped h.words (stands s (extents_of t) a h.extents)
+          ∙ ap (λ (e : Term). den e s r t) (sym same);
     }),
-    (λ ok. w.shape (subst (λ (e : Term). IsOk (shape_of e (given f.shapes))) same p.shaped) ok
-        ∙ ap (λ (e : Term). shape_of e (given f.shapes)) (sym same)),
+    subst (λ (e : Term). SameOrLimit (shape_of e (given f.shapes)) (shape_of new (given f.shapes))) (sym same)
+        (w.shape (subst (λ (e : Term). IsOk (shape_of e (given f.shapes))) same p.shaped)),
   )
+
+  pub replaced : (known : List ℕ → List ℕ → Type 0) (cs : List Condition) → (AllTrueGoals cs → (s r : List ℕ) → FactsHold f.facts s r → known s r)
+      → Replaces f known e new → MeantKeeps f (Makes new cs)
+  replaced known cs knows w = replaced_words known cs knows (record {
+    scoped = w.scoped;
+    extents = w.extents;
+    goals = w.goals;
+    meaning = λ s r t k h u. w.meaning s r t k h;
+    shape = w.shape;
+  })
 
   -- where nothing is to be known
   pub replaced_anywhere : Replaces f anywhere e new → MeantKeeps f (Makes new [])

@@ -1,6 +1,5 @@
 -- Sums of sums, and rows of sums.
 use Rattle.std.proofs.Common.{◌≡◌, ℕ, ◌+◌, List, [], ◌∷◌, length, refl, sym, ◌∙◌, Bool, true, false, ◌&&◌}
-use Rattle.std.proofs.Common.{Ok, Err, IsOk}
 use Rattle.affine_index.specs.Limited.{items_scoped}
 use Rattle.affine_index.specs.declared.form.Items.{Items}
 use Rattle.binders.proofs.Sums.{total-plus, zeros_idempotent}
@@ -9,7 +8,7 @@ use Rattle.fact_list.specs.Facts.{binders}
 use Rattle.shape_rules.specs.Scopes.{given}
 use Rattle.term_tree.specs.Meaning.{Bound, den, dims, extent, extents_of}
 use Rattle.term_tree.specs.Scope.{term_scoped}
-use Rattle.term_tree.specs.Shape.{Shaped, of_equal, same_form, shape_of, with_child}
+use Rattle.term_tree.specs.Shape.{same_form, shape_of}
 use Rattle.term_tree.specs.Syntax.{add, sum}
 use Rattle.term_tree.specs.Tensors.{plus_places, tabulate, total, zeros}
 use Rattle.term_tree.specs.declared.term.Term.{Term}
@@ -18,7 +17,7 @@ use Rattle.path_focus.specs.Outcome.{MeantKeeps, RuleKeeps, without_arguments, M
 use Rattle.path_focus.specs.declared.place.Focus.{Focus}
 use Rattle.path_focus.specs.declared.rule.Arg.{Arg}
 use Rattle.rules_loop.proofs.Replacing.{Replaces, anywhere, replaced_anywhere}
-use Rattle.rules_loop.proofs.ShapeLaws.{handed_on, never}
+use Rattle.rules_loop.proofs.ShapeLaws.{both_sums, one_sum}
 use Rattle.rules_loop.specs.Patterns.{on_add, on_sum, provided}
 use Rattle.rules_loop.specs.Table.{add_sum, sum_add}
 
@@ -29,25 +28,6 @@ apart false a b h = absurd (cc)
 together : (n a b : Bool) → ((n && a) && (n && b)) ≡ true → (n && (a && b)) ≡ true
 together true a b h = h
 together false a b h = absurd (cc)
-
--- the shapes of the sum of sums, and of the sum of a sum
-both_sums : (x y : Shaped) → IsOk (with_child 0 (with_child 0 x (λ ns. Ok ns)) (λ ns. with_child 1 (with_child 0 y (λ ms. Ok ms)) (λ ms. of_equal ns ms)))
-    → with_child 0 (with_child 0 x (λ ns. Ok ns)) (λ ns. with_child 1 (with_child 0 y (λ ms. Ok ms)) (λ ms. of_equal ns ms))
-    ≡ with_child 0 (with_child 0 x (λ ns. with_child 1 y (λ ms. of_equal ns ms))) (λ ns. Ok ns)
-both_sums (Ok ns) (Ok ms) h = handed_on (of_equal ns ms) h
-both_sums (Ok ns) (Err m) h = absurd (never h)
-both_sums (Err m) y h = absurd (never h)
-
-one_sum : (x y : Shaped) → IsOk (with_child 0 (with_child 0 x (λ ns. with_child 1 y (λ ms. of_equal ns ms))) (λ ns. Ok ns))
-    → with_child 0 (with_child 0 x (λ ns. with_child 1 y (λ ms. of_equal ns ms))) (λ ns. Ok ns)
-    ≡ with_child 0 (with_child 0 x (λ ns. Ok ns)) (λ ns. with_child 1 (with_child 0 y (λ ms. Ok ms)) (λ ms. of_equal ns ms))
-one_sum (Ok ns) (Ok ms) h = by (of_equal ns ms) h
-  where
-    by : (z : Shaped) → IsOk (with_child 0 z (λ ns. Ok ns)) → with_child 0 z (λ ns. Ok ns) ≡ z
-    by (Ok ns) h = refl
-    by (Err m) h = absurd (never h)
-one_sum (Ok ns) (Err m) h = absurd (never h)
-one_sum (Err m) y h = absurd (never h)
 
 module _ (f : Focus) (n : Items) (a b : Term) where
   -- both denote the same where the terms have equal extents
@@ -66,7 +46,7 @@ module _ (f : Focus) (n : Items) (a b : Term) where
     extents = λ s ds w. refl;
     goals = λ s ds w. ((w.goals.0, w.goals.1.0), (w.goals.0, w.goals.1.1));
     meaning = λ s r t k h w. same_sums s r t w.fits.0;
-    shape = λ h k. both_sums (shape_of a (given f.shapes)) (shape_of b (given f.shapes)) k;
+    shape = λ h. both_sums (shape_of a (given f.shapes)) (shape_of b (given f.shapes)) h;
   }
 
   sums_together : Replaces f anywhere (add (sum n a) (sum n b)) (sum n (add a b))
@@ -76,7 +56,7 @@ module _ (f : Focus) (n : Items) (a b : Term) where
     extents = λ s ds w. refl;
     goals = λ s ds w. (w.goals.0.0, (w.goals.0.1, w.goals.1.1));
     meaning = λ s r t k h w. sym (same_sums s r t w.fits.0);
-    shape = λ h k. one_sum (shape_of a (given f.shapes)) (shape_of b (given f.shapes)) k;
+    shape = λ h. one_sum (shape_of a (given f.shapes)) (shape_of b (given f.shapes)) h;
   }
 
 sum_add_inside : (f : Focus) → IsProper f → (n : Items) (e : Term) → f.term ≡ sum n e → (as' : List Arg)

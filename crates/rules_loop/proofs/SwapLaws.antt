@@ -1,6 +1,5 @@
 -- Two gens or sums in the other order.
 use Rattle.std.proofs.Common.{◌≡◌, ℕ, zero, suc, ◌+◌, ◌<◌, List, [], ◌∷◌, length, refl, ap, sym, ◌∙◌, subst, arith, Bool, true, false, ◌&&◌}
-use Rattle.std.proofs.Common.{Ok, IsOk}
 use Rattle.std.proofs.lemmas.Bool.{and_from, and_parts}
 use Rattle.affine_index.specs.Form.{var_form}
 use Rattle.affine_index.specs.Limited.{items_scoped}
@@ -21,7 +20,7 @@ use Rattle.shape_rules.specs.Scopes.{given}
 use Rattle.term_tree.specs.Limits.{every_form, form_step}
 use Rattle.term_tree.specs.Meaning.{Bound, columns, den, dims, extent, extents_of}
 use Rattle.term_tree.specs.Scope.{term_scoped}
-use Rattle.term_tree.specs.Shape.{Extents, limited, shape_of, with_child}
+use Rattle.term_tree.specs.Shape.{Extents, shape_of}
 use Rattle.term_tree.specs.Syntax.{gen, sum, transpose}
 use Rattle.term_tree.specs.Tensors.{from_rows, tabulate, total, zeros}
 use Rattle.term_tree.specs.declared.term.Term.{Term}
@@ -33,9 +32,10 @@ use Rattle.path_focus.specs.Outcome.{Makes, MeantKeeps, RuleKeeps, without_argum
 use Rattle.path_focus.specs.declared.place.Focus.{Focus}
 use Rattle.path_focus.specs.declared.rule.Arg.{Arg}
 use Rattle.path_focus.proofs.PutLaws.{put_extents, put_goals, put_shape}
+use Rattle.path_focus.proofs.ShapeSteps.{new_is, same_shape_there}
 use Rattle.rules_loop.proofs.Replacing.{Replaces, anywhere, replaced_anywhere}
 use Rattle.rules_loop.proofs.RowLaws.{total_of_rows}
-use Rattle.rules_loop.proofs.ShapeLaws.{rows_of_rows, rows_summed, summed_rows, turned, turned_rows}
+use Rattle.rules_loop.proofs.ShapeLaws.{rows, rows_of_rows, rows_summed, summed, summed_rows, turned, turned_rows}
 use Rattle.rules_loop.specs.Patterns.{on_gen, on_sum}
 use Rattle.rules_loop.specs.Table.{gen_sum, sum_gen, swap_gen, swap_sum, swapped}
 
@@ -109,7 +109,9 @@ module _ (f : Focus) (n m : Items) (b : Term) (ordered : AllOrdered b) where
         (λ k. total (zeros (swapped-extents b s (extents_of t) k))
         (tabulate (extent m s) (λ j. total (zeros (swapped-extents b s (extents_of t) k)) (tabulate (extent n s) (λ i. same_turn s r t i j k)))))
         ∙ sym (total-swap z (zeros_idempotent (dims b s (extents_of t))) (extent n s) (extent m s) (λ i j. den b s (j ∷ i ∷ r) t));
-    shape = λ h k. ap (λ x. with_child 0 (with_child 0 x (λ ns. Ok ns)) (λ ns. Ok ns)) (swapped-shape b (given f.shapes));
+    shape = λ h.
+        same_shape_there (shape_of (sum n (sum m b)) (given f.shapes)) (shape_of (sum m (sum n (swapped b))) (given f.shapes)) h
+        (ap (λ x. summed (summed x)) (swapped-shape b (given f.shapes)));
   }
 
   gens_swapped : Replaces f anywhere (gen n (gen m b)) (transpose (gen m (gen n (swapped b))))
@@ -123,9 +125,10 @@ module _ (f : Focus) (n m : Items) (b : Term) (ordered : AllOrdered b) where
         (λ k. from_rows (columns (extent n s) z (rows_of-from_rows rows k)))
         ∙ ap from_rows (columns-tabulate (extent m s) (extent n s) z (λ j i. den (swapped b) s (i ∷ j ∷ r) t))
         ∙ (λ k. from_rows (tabulate (extent n s) (λ i. from_rows (tabulate (extent m s) (λ j. same_turn s r t i j k)))));
-    shape = λ h k.
-        let e = swapped-shape b (given f.shapes) in
-        ap (λ x. turned (rows_of_rows m n x)) e ∙ turned_rows n m (shape_of b (given f.shapes)) h (subst (λ x. IsOk (turned (rows_of_rows m n x))) e k);
+    shape = λ h.
+        new_is (shape_of (gen n (gen m b)) (given f.shapes)) (shape_of (transpose (gen m (gen n (swapped b)))) (given f.shapes))
+        (turned (rows_of_rows m n (shape_of b (given f.shapes)))) (ap (λ x. turned (rows_of_rows m n x)) (swapped-shape b (given f.shapes)))
+        (turned_rows n m (shape_of b (given f.shapes)) h);
   }
 
   sum_inside : Replaces f anywhere (sum n (gen m b)) (gen m (sum n (swapped b)))
@@ -137,8 +140,10 @@ module _ (f : Focus) (n m : Items) (b : Term) (ordered : AllOrdered b) where
         (λ k. from_rows (tabulate (extent m s) (λ j. total (zeros (swapped-extents b s (extents_of t) k)) (tabulate (extent n s)
         (λ i. same_turn s r t i j k)))))
         ∙ sym (total_of_rows (extent m s) (dims b s (extents_of t)) (extent n s) (λ i j. den b s (j ∷ i ∷ r) t));
-    shape = λ h k. ap (λ x. with_child 0 (with_child 0 x (λ ns. Ok ns)) (λ ns. limited (m ∷ ns))) (swapped-shape b (given f.shapes))
-        ∙ summed_rows m (shape_of b (given f.shapes)) h;
+    shape = λ h.
+        new_is (shape_of (sum n (gen m b)) (given f.shapes)) (shape_of (gen m (sum n (swapped b))) (given f.shapes))
+        (rows m (summed (shape_of b (given f.shapes)))) (ap (λ x. rows m (summed x)) (swapped-shape b (given f.shapes)))
+        (summed_rows m (shape_of b (given f.shapes)) h);
   }
 
   sum_outside : Replaces f anywhere (gen n (sum m b)) (sum m (gen n (swapped b)))
@@ -150,8 +155,10 @@ module _ (f : Focus) (n m : Items) (b : Term) (ordered : AllOrdered b) where
         (λ k. total (zeros (extent n s ∷ swapped-extents b s (extents_of t) k))
         (tabulate (extent m s) (λ j. from_rows (tabulate (extent n s) (λ i. same_turn s r t i j k)))))
         ∙ total_of_rows (extent n s) (dims b s (extents_of t)) (extent m s) (λ j i. den b s (j ∷ i ∷ r) t);
-    shape = λ h k. ap (λ x. with_child 0 (with_child 0 x (λ ns. limited (n ∷ ns))) (λ ns. Ok ns)) (swapped-shape b (given f.shapes))
-        ∙ rows_summed n (shape_of b (given f.shapes)) h;
+    shape = λ h.
+        new_is (shape_of (gen n (sum m b)) (given f.shapes)) (shape_of (sum m (gen n (swapped b))) (given f.shapes))
+        (summed (rows n (shape_of b (given f.shapes)))) (ap (λ x. summed (rows n x)) (swapped-shape b (given f.shapes)))
+        (rows_summed n (shape_of b (given f.shapes)) h);
   }
 
 -- the body of two binders is in normal form where the term is

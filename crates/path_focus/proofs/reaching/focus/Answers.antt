@@ -1,6 +1,6 @@
 use Rattle.std.proofs.Common.{◌≡◌, Some, rules, subst}
 use Rattle.std.specs.Prelude.{All, slice_get}
-use Rattle.path_focus.specs.Laws.{HasOrdered, IsThere}
+use Rattle.path_focus.specs.Laws.{HasOrdered, HasWordLiterals, IsThere}
 use Rattle.path_focus.specs.Focus.{focus_of}
 use Rattle.path_focus.proofs.CallLaws.{may_start, proper_there}
 use Rattle.path_focus.proofs.reaching.focus.Goals as goal
@@ -13,5 +13,6 @@ found-requires c =
 pub returns-in-Some-clause-proper : goal.returns-in-Some-clause-proper
 returns-in-Some-clause-proper c =
     let there : IsThere (focus_of c.args.module.now c.args.path.now) c.found.result = search rules in
-    proper_there c.args.module.now c.args.path.now c.found.result c.requires.sound (subst (λ os. All HasOrdered os) c.as_slice.ensures c.told_outputs.ensures)
-    c.requires.limited there
+    proper_there c.args.module.now c.args.path.now c.found.result c.requires.sound
+    (subst (λ os. All HasOrdered os) c.as_slice.ensures c.forms_told_of.ensures)
+    (subst (λ os. All HasWordLiterals os) c.as_slice-2.ensures c.literals_told_of.ensures) c.requires.limited there

@@ -1,6 +1,6 @@
 use Rattle.shape_rules.specs.Faults.{AllBefore}
 use Rattle.path_focus.specs.Laws.{HasOrdered}
-use Rattle.path_focus.proofs.reaching.told_outputs.Given as goal
+use Rattle.path_focus.proofs.outputs.forms_told_of.Given as goal
 
 abbrev pub invariant-loop-output : goal.invariant-loop-output
 invariant-loop-output l = AllBefore HasOrdered l.output-index l.outputs

@@ -3,7 +3,7 @@ use Rattle.affine_index.proofs.ArithmeticLaws.{normal-ordered}
 use Rattle.shape_rules.proofs.ModuleLaws.{before_more}
 use Rattle.term_tree.proofs.FormLaws.{every_form-weaker}
 use Rattle.path_focus.specs.Laws.{HasOrdered}
-use Rattle.path_focus.proofs.reaching.told_outputs.Goals as goal
+use Rattle.path_focus.proofs.outputs.forms_told_of.Goals as goal
 
 pub loop-output-preserved : goal.loop-output-preserved
 loop-output-preserved c =

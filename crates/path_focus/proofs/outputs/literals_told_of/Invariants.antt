@@ -1,0 +1,6 @@
+use Rattle.shape_rules.specs.Faults.{AllBefore}
+use Rattle.path_focus.specs.Laws.{HasWordLiterals}
+use Rattle.path_focus.proofs.outputs.literals_told_of.Given as goal
+
+abbrev pub invariant-loop-output : goal.invariant-loop-output
+invariant-loop-output l = AllBefore HasWordLiterals l.output-index l.outputs
