@@ -18,8 +18,9 @@ use Rattle.path_focus.proofs.FocusMeaning.{facts_listed}
 use Rattle.rules_loop.specs.Patterns.{on_add, on_either, on_gen, on_index, on_sum, provided}
 use Rattle.rules_loop.specs.Rules.{rule_of}
 use Rattle.rules_loop.specs.declared.rules.LoopRule.{LoopRule}
-use Rattle.rules_loop.specs.declared.rules.LoopRule.TheVariants.{Beta, SwapGen, SwapSum, SumGen, GenSum, SumIndex, SumAdd, AddSum, AddIndex}
+use Rattle.rules_loop.specs.declared.rules.LoopRule.TheVariants.{Beta, Eta, SwapGen, SwapSum, SumGen, GenSum, SumIndex, SumAdd, AddSum, AddIndex}
 use Rattle.rules_loop.proofs.BetaLaw.{beta_keeps}
+use Rattle.rules_loop.proofs.EtaLaws.{eta_keeps}
 use Rattle.rules_loop.proofs.IndexLaws.{add_index_keeps, sum_index_keeps}
 use Rattle.rules_loop.proofs.SumLaws.{add_sum_keeps, sum_add_keeps}
 use Rattle.rules_loop.proofs.SwapLaws.{gen_sum_keeps, sum_gen_keeps, swap_gen_keeps, swap_sum_keeps}
@@ -69,6 +70,7 @@ listed f p Beta as' = at_index f.term _ (λ e x. at_gen e _ (λ n b. with_none a
     both n x zero d h = facts_listed f p
     both n x (suc zero) d h = facts_listed f p
     both n x (suc (suc k)) d h = absurd (omega (arith, h))
+listed f p Eta as' = at_gen f.term _ (λ n e. at_index e _ (λ a x. if_provided _ _ (with_none as' _ no_conditions)))
 listed f p SwapGen as' = at_gen f.term _ (λ n e. at_gen e _ (λ m b. with_none as' _ no_conditions))
 listed f p SwapSum as' = at_sum f.term _ (λ n e. at_sum e _ (λ m b. with_none as' _ no_conditions))
 listed f p SumGen as' = at_sum f.term _ (λ n e. at_gen e _ (λ m b. with_none as' _ no_conditions))
@@ -90,6 +92,7 @@ rule_listed f rule as' o p h = made_listed (rule_of f rule as') o (listed f p ru
 
 kept : (f : Focus) (rule : LoopRule) (as' : List Arg) → IsProper f → every_form is_ordered f.term ≡ true → MeantKeeps f (rule_of f rule as')
 kept f Beta as' p o = beta_keeps f p o as'
+kept f Eta as' p o = eta_keeps f p o as'
 kept f SwapGen as' p o = swap_gen_keeps f p o as'
 kept f SwapSum as' p o = swap_sum_keeps f p o as'
 kept f SumGen as' p o = sum_gen_keeps f p o as'

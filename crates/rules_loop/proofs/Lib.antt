@@ -1,6 +1,7 @@
 pub mod ApplyLaws
 pub mod BetaLaw
 pub mod DraftLaws
+pub mod EtaLaws
 pub mod IndexLaws
 pub mod Parts
 pub mod PatternLaws

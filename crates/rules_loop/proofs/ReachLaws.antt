@@ -1,7 +1,8 @@
 -- The numbers of a proper focus leave room for what rules put into its terms.
 use Rattle.std.proofs.Common.{◌≡◌, ℕ, zero, suc, ◌+◌, ◌<◌, ◌≤◌, List, [], ◌∷◌, length, sym, ◌∙◌, subst, arith, true, ◌&&◌}
 use Rattle.std.proofs.lemmas.Bool.{and_parts}
-use Rattle.affine_index.specs.Form.{var_form}
+use Rattle.std.specs.Prelude.{pos}
+use Rattle.affine_index.specs.Form.{literal_form, var_form}
 use Rattle.affine_index.specs.Limited.{items_scoped}
 use Rattle.affine_index.specs.Put.{given as given_form, numbers_fit}
 use Rattle.affine_index.specs.declared.form.Items.{Items}
@@ -12,7 +13,7 @@ use Rattle.binders.proofs.ReachLaws.{put_index_within}
 use Rattle.fact_list.specs.Facts.{binders}
 use Rattle.fact_list.specs.declared.facts.PathFact.{PathFact}
 use Rattle.fact_list.specs.declared.facts.PathFact.TheVariants.{Bound, Holds}
-use Rattle.shape_rules.specs.Scopes.{given}
+use Rattle.shape_rules.specs.Scopes.{IsScoped, given}
 use Rattle.term_tree.specs.Counts.{node_count, node_depth}
 use Rattle.term_tree.specs.Scope.{term_scoped}
 use Rattle.term_tree.specs.Syntax.{gen, index}
@@ -20,6 +21,7 @@ use Rattle.term_tree.specs.declared.term.Term.{Term}
 use Rattle.path_focus.specs.Focus.{IsProper}
 use Rattle.path_focus.specs.declared.place.Focus.{Focus}
 use Rattle.path_focus.proofs.CountLaws.{depth_nodes, one_put}
+use Rattle.rules_loop.proofs.EtaLaws.{literal-scoped}
 use Rattle.rules_loop.proofs.SwapLaws.{var-scoped}
 
 -- no more binders than facts
@@ -85,3 +87,19 @@ module _ (f : Focus) (p : IsProper f) where
   row_fits e x q =
       let c = and_parts (term_scoped sizes e vars tensors) (items_scoped sizes vars x) (scope_of (index e x) q) in
       form-fits sizes vars 0 1 (omega (arith, vars_few)) x c.1
+
+  -- an array of which each row is taken
+  array_scope : (n : Items) (a : Term) (x : Items) → f.term ≡ gen n (index a x) → term_scoped sizes a (vars + 1) tensors ≡ true
+  array_scope n a x q =
+      let c = and_parts (items_scoped sizes 0 n) (term_scoped sizes (index a x) (vars + 1) tensors) (scope_of (gen n (index a x)) q) in
+      (and_parts (term_scoped sizes a (vars + 1) tensors) (items_scoped sizes (vars + 1) x) c.1).0
+
+  pub array_scoped : (n : Items) (a : Term) (x : Items) → f.term ≡ gen n (index a x) → IsScoped f.shapes a
+  array_scoped n a x q = (sizes, vars + 1, array_scope n a x q)
+
+  -- 0 for the variable of its gen
+  pub lowered_reach : (n : Items) (a : Term) (x : Items) → f.term ≡ gen n (index a x)
+      → (node_depth a ≤ 2147483647) × IsWithinReach (put_index_reach (literal_form (pos 0) ∷ []) 0) a
+  lowered_reach n a x q =
+      let s = small_of (gen n (index a x)) q in
+      one_put sizes vars tensors (literal_form (pos 0)) a vars_few (omega (arith, s)) (literal-scoped sizes vars 0) (array_scope n a x q)

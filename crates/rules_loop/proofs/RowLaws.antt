@@ -72,3 +72,12 @@ total_of_rows m ds zero f = ap from_rows (sym (tabulate-same m (zeros ds)))
 total_of_rows m ds (suc n) f =
     (λ k. plus_places (from_rows (tabulate m (f 0))) (total_of_rows m ds n (λ i. f (suc i)) k))
     ∙ rows_added m (f 0) (λ j. total (zeros ds) (tabulate n (λ i. f (suc i) j)))
+
+-- the rows of a tensor, one by one
+pub rows_again : (P : Tensor → Type 0) (n : ℕ) (x z : Tensor) → HasRows P n x → from_rows (tabulate n (λ i. get_or (rows_of x) i z)) ≡ x
+rows_again P zero (Word w) z h = absurd h
+rows_again P zero End z h = refl
+rows_again P zero (Row a rest) z h = absurd h
+rows_again P (suc n) (Word w) z h = absurd h
+rows_again P (suc n) End z h = absurd h
+rows_again P (suc n) (Row a rest) z h = λ i. Row a (rows_again P n rest z h.1 i)

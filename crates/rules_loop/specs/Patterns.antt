@@ -1,7 +1,8 @@
 -- Patterns of rules: what is made of the parts of a term of this form, or that it has another one.
-use Rattle.std.specs.Prelude.{Bool, if◌then◌else◌}
+use Rattle.std.specs.Prelude.{Bool, false, if◌then◌else◌, ◌∷◌, Ok}
 use Rattle.affine_index.specs.declared.form.Items.{Items}
 use Rattle.path_focus.specs.Outcome.{Meant, Unlike}
+use Rattle.term_tree.specs.Shape.{Shaped, same_form}
 use Rattle.term_tree.specs.Syntax.{index, gen, sum, add, sub}
 use Rattle.term_tree.specs.declared.term.Term.{Term}
 
@@ -30,3 +31,8 @@ on_either _ f g = Unlike
 -- where something holds
 abbrev pub provided : Bool → Meant → Meant
 provided b m = if b then m else Unlike
+
+-- a form is the first extent of a shape
+abbrev pub is_first : Items → Shaped → Bool
+is_first n (Ok (m ∷ ms)) = same_form m n
+is_first n _ = false

@@ -8,11 +8,12 @@ use Rattle.path_focus.specs.declared.rule.RuleFault.{RuleFault}
 use Rattle.path_focus.specs.declared.rule.RuleFault.TheVariants.{Memory}
 use Rattle.rules_loop.specs.Table as table
 use Rattle.rules_loop.specs.declared.rules.LoopRule.{LoopRule}
-use Rattle.rules_loop.specs.declared.rules.LoopRule.TheVariants.{Beta, SwapGen, SwapSum, SumGen, GenSum, SumIndex, SumAdd, AddSum, AddIndex}
+use Rattle.rules_loop.specs.declared.rules.LoopRule.TheVariants.{Beta, Eta, SwapGen, SwapSum, SumGen, GenSum, SumIndex, SumAdd, AddSum, AddIndex}
 
 -- what a rule makes of a focus and arguments
 abbrev pub rule_of : Focus → LoopRule → List Arg → Meant
 rule_of f Beta = table.beta f
+rule_of f Eta = table.eta f
 rule_of f SwapGen = table.swap_gen f
 rule_of f SwapSum = table.swap_sum f
 rule_of f SumGen = table.sum_gen f

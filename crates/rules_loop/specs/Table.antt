@@ -1,15 +1,17 @@
 -- The rules of gens and sums.
-use Rattle.std.specs.Prelude.{List, [], ◌∷◌}
+use Rattle.std.specs.Prelude.{List, [], ◌∷◌, not, ◌&&◌}
 use Rattle.affine_index.specs.Form.{var_form}
 use Rattle.affine_index.specs.Put.{shifted}
 use Rattle.binders.specs.Maps.{mapped}
 use Rattle.binders.specs.PlainMaps.{put_index_map}
-use Rattle.path_focus.specs.Making.{one_of_rows, with_index}
+use Rattle.binders.specs.Uses.{uses_index}
+use Rattle.path_focus.specs.Making.{lowered, one_of_rows, with_index}
 use Rattle.path_focus.specs.Outcome.{Makes, Meant, without_arguments}
 use Rattle.path_focus.specs.declared.place.Focus.{Focus}
 use Rattle.path_focus.specs.declared.rule.Arg.{Arg}
-use Rattle.rules_loop.specs.Patterns.{on_add, on_either, on_gen, on_index, on_sum, provided}
-use Rattle.term_tree.specs.Shape.{same_form}
+use Rattle.rules_loop.specs.Patterns.{is_first, on_add, on_either, on_gen, on_index, on_sum, provided}
+use Rattle.shape_rules.specs.Scopes.{given}
+use Rattle.term_tree.specs.Shape.{same_form, shape_of}
 use Rattle.term_tree.specs.Syntax.{add, gen, index, sub, sum, transpose}
 use Rattle.term_tree.specs.declared.term.Term.{Term}
 
@@ -20,6 +22,11 @@ swapped b = mapped (put_index_map (var_form 1 ∷ var_form 0 ∷ []) 2) 0 0 b
 -- (gen i < n. b)[x] becomes b with x for i, where 0 <= x < n
 abbrev pub beta : Focus → List Arg → Meant
 beta f as' = on_index f.term (λ e x. on_gen e (λ n b. without_arguments as' (Makes (with_index x b) (one_of_rows f.facts n x))))
+
+-- gen i < n. a[i] becomes a, where a is free of i and n its first extent
+abbrev pub eta : Focus → List Arg → Meant
+eta f as' = on_gen f.term (λ n e. on_index e (λ a x.
+    provided (same_form x (var_form 0) && (not (uses_index a 0) && is_first n (shape_of a (given f.shapes)))) (without_arguments as' (Makes (lowered a) []))))
 
 -- gen i < n. gen j < m. b becomes transpose(gen j < m. gen i < n. b)
 abbrev pub swap_gen : Focus → List Arg → Meant

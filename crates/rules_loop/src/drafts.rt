@@ -86,7 +86,8 @@ pub fn transpose_of(alloc: Global, body: Draft) -> Result<Draft, CertRefusal>
     }
 }
 
-fn var(alloc: Global, var: u32) -> Result<Aff, CertRefusal>
+/// The index variable of a number.
+pub fn var(alloc: Global, var: u32) -> Result<Aff, CertRefusal>
     ensures { IfOk result (λ x. x ≡ var_form var) }
 {
     match Aff::var(alloc, var) {

@@ -8,6 +8,11 @@ pub fn beta_keeps()
     ensures { RuleKeeps table.beta }
 {}
 
+/// A gen of the rows of a term is the term.
+pub fn eta_keeps()
+    ensures { RuleKeeps table.eta }
+{}
+
 /// Two gens in the other order are the columns.
 pub fn swap_gen_keeps()
     ensures { RuleKeeps table.swap_gen }

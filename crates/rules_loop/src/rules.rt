@@ -5,7 +5,7 @@ ghost use Rattle.path_focus.specs.Focus.{IsProper, KeepsMeaning, KeepsShape};
 ghost use Rattle.path_focus.specs.Outcome.{Answers, IsOutcome, answer, conditions_of};
 ghost use Rattle.rules_loop.specs.Rules.{IsConditions, rule_of};
 
-use crate::rows::beta;
+use crate::rows::{beta, eta};
 use crate::sums::{add_index, add_sum, sum_add, sum_index};
 use crate::swaps::{gen_sum, sum_gen, swap_gen, swap_sum};
 use fact_list::CertRefusal;
@@ -19,6 +19,7 @@ use term_tree::{Term, told};
 #[derive(Clone, Copy, Debug, PartialEq, Eq)]
 pub enum LoopRule {
     Beta,
+    Eta,
     SwapGen,
     SwapSum,
     SumGen,
@@ -40,6 +41,7 @@ fn outcome(
 {
     match rule {
         LoopRule::Beta => beta(alloc, focus, args),
+        LoopRule::Eta => eta(alloc, focus, args),
         LoopRule::SwapGen => swap_gen(alloc, focus, args),
         LoopRule::SwapSum => swap_sum(alloc, focus, args),
         LoopRule::SumGen => sum_gen(alloc, focus, args),
