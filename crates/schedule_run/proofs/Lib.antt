@@ -1,0 +1,5 @@
+pub mod CountLaws
+pub mod LimitLaws
+pub mod RunLaws
+pub mod StepLaws
+pub mod VersionLaws

@@ -1,0 +1,12 @@
+//! Scripts run on modules, step by step.
+#![tactic(auto)]
+
+mod fault;
+mod limits;
+mod names;
+mod running;
+mod stepping;
+
+pub use fault::{StepFault, StepKind};
+pub use names::Rule;
+pub use running::{Staged, last_version, run_script};
