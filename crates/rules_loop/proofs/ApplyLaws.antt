@@ -1,10 +1,10 @@
 -- What the call of a rule takes of what the rule makes.
-use Rattle.std.proofs.Common.{◌≡◌, zero, suc, List, [], ◌∷◌, sym, subst, arith, Bool, true, false}
+use Rattle.std.proofs.Common.{◌≡◌, zero, suc, List, [], ◌∷◌, sym, subst, arith, Bool, true, false, ℕ, Option, Some, None, if◌then◌else◌}
 use Rattle.affine_index.specs.Normal.{is_normal, is_ordered}
 use Rattle.affine_index.specs.declared.form.Items.{Items}
 use Rattle.affine_index.proofs.ArithmeticLaws.{normal-ordered}
 use Rattle.term_tree.specs.Limits.{every_form}
-use Rattle.term_tree.specs.Syntax.{add, gen, index, sub, sum}
+use Rattle.term_tree.specs.Syntax.{add, flatten, gen, index, sub, sum}
 use Rattle.term_tree.specs.declared.term.Term.{Term}
 use Rattle.term_tree.proofs.FormLaws.{every_form-weaker}
 use Rattle.path_focus.specs.Focus.{IsProper}
@@ -14,16 +14,20 @@ use Rattle.path_focus.specs.declared.place.Focus.{Focus}
 use Rattle.path_focus.specs.declared.outcome.Outcome.{Outcome}
 use Rattle.path_focus.specs.declared.outcome.Outcome.TheVariants.{NoPattern, WrongArgument, Made}
 use Rattle.path_focus.specs.declared.rule.Arg.{Arg}
+use Rattle.path_focus.specs.declared.rule.Arg.TheVariants.{Ix}
 use Rattle.path_focus.proofs.FocusMeaning.{facts_listed}
-use Rattle.rules_loop.specs.Patterns.{on_add, on_either, on_gen, on_index, on_sum, provided}
+use Rattle.rules_loop.specs.Patterns.{on_add, on_either, on_flatten, on_gen, on_index, on_sum, provided}
 use Rattle.rules_loop.specs.Rules.{rule_of}
 use Rattle.rules_loop.specs.declared.rules.LoopRule.{LoopRule}
 use Rattle.rules_loop.specs.declared.rules.LoopRule.TheVariants.{Beta, Eta, SwapGen, SwapSum, SumGen, GenSum, SumIndex, SumAdd, AddSum, AddIndex}
+use Rattle.rules_loop.specs.declared.rules.LoopRule.TheVariants.{SplitGen, SplitSum, SplitGenExact, FuseGen}
+use Rattle.rules_loop.specs.Tilings.{divides, tile_of, with_number, with_tile}
 use Rattle.rules_loop.proofs.BetaLaw.{beta_keeps}
 use Rattle.rules_loop.proofs.EtaLaws.{eta_keeps}
 use Rattle.rules_loop.proofs.IndexLaws.{add_index_keeps, sum_index_keeps}
 use Rattle.rules_loop.proofs.SumLaws.{add_sum_keeps, sum_add_keeps}
 use Rattle.rules_loop.proofs.SwapLaws.{gen_sum_keeps, sum_gen_keeps, swap_gen_keeps, swap_sum_keeps}
+use Rattle.rules_loop.proofs.TilingLaws.{fuse_gen_keeps, split_gen_exact_keeps, split_gen_keeps, split_sum_keeps}
 
 -- the facts of its conditions may be listed
 abbrev MeantListed : Meant → Type 0
@@ -60,6 +64,22 @@ with_none : (as' : List Arg) (m : Meant) → MeantListed m → MeantListed (with
 with_none [] m h = h
 with_none (a ∷ as') m h = tt
 
+with_number_of : (o : Option ℕ) (m : Meant) (f : ℕ → Meant) → MeantListed m → ((k : ℕ) → MeantListed (f k)) → MeantListed (with_number o m f)
+with_number_of (Some k) m f h l = l k
+with_number_of None m f h l = h
+
+with_tiles : (as' : List Arg) (f : ℕ → Meant) → ((k : ℕ) → MeantListed (f k)) → MeantListed (with_tile as' f)
+with_tiles (Ix x ∷ []) f h = with_number_of (tile_of x) Unfit f tt h
+with_tiles _ f h = tt
+
+at_flatten : (t : Term) (f : Term → Meant) → ((e : Term) → MeantListed (f e)) → MeantListed (on_flatten t f)
+at_flatten (flatten e) f h = h e
+at_flatten _ f h = tt
+
+if_fit : (b : Bool) (m : Meant) → MeantListed m → MeantListed (if b then m else Unfit)
+if_fit true m h = h
+if_fit false m h = tt
+
 no_conditions : AllListed []
 no_conditions k d h = absurd (omega (arith, h))
 
@@ -79,6 +99,10 @@ listed f p SumIndex as' = at_index f.term _ (λ e x. at_sum e _ (λ n b. with_no
 listed f p SumAdd as' = at_sum f.term _ (λ n e. at_add e _ (λ a b. with_none as' _ no_conditions))
 listed f p AddSum as' = at_add f.term _ (λ d e. at_sum d _ (λ n a. at_sum e _ (λ m b. if_provided _ _ (with_none as' _ no_conditions))))
 listed f p AddIndex as' = at_index f.term _ (λ e x. at_either e _ _ (λ a b. with_none as' _ no_conditions) (λ a b. with_none as' _ no_conditions))
+listed f p SplitGen as' = at_gen f.term _ (λ n b. with_tiles as' _ (λ k. no_conditions))
+listed f p SplitSum as' = at_sum f.term _ (λ n b. with_tiles as' _ (λ k. no_conditions))
+listed f p SplitGenExact as' = at_gen f.term _ (λ n b. with_tiles as' _ (λ k. if_fit (divides k n) _ no_conditions))
+listed f p FuseGen as' = at_flatten f.term _ (λ e. at_gen e _ (λ n d. at_gen d _ (λ m b. with_number_of (tile_of m) Unlike _ tt (λ k. with_none as' _ no_conditions))))
 
 made_listed : (m : Meant) (o : Outcome) → MeantListed m → IsOutcome m o → MadeListed o
 made_listed m NoPattern l h = tt
@@ -101,6 +125,10 @@ kept f SumIndex as' p o = sum_index_keeps f p o as'
 kept f SumAdd as' p o = sum_add_keeps f p o as'
 kept f AddSum as' p o = add_sum_keeps f p o as'
 kept f AddIndex as' p o = add_index_keeps f p o as'
+kept f SplitGen as' p o = split_gen_keeps f p o as'
+kept f SplitSum as' p o = split_sum_keeps f p o as'
+kept f SplitGenExact as' p o = split_gen_exact_keeps f p o as'
+kept f FuseGen as' p o = fuse_gen_keeps f p o as'
 
 pub rule_keeps : (f : Focus) (rule : LoopRule) (as' : List Arg) → IsProper f → every_form is_normal f.term ≡ true → MeantKeeps f (rule_of f rule as')
 rule_keeps f rule as' p o = kept f rule as' p (every_form-weaker is_normal is_ordered normal-ordered f.term o)

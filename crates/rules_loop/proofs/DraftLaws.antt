@@ -7,9 +7,9 @@ use Rattle.affine_index.specs.declared.form.Items.{Items}
 use Rattle.binders.proofs.NormalLaws.{fits_of, short_of}
 use Rattle.term_tree.specs.Counts.{node_count}
 use Rattle.term_tree.specs.Limits.{coefficients_fit, every_form, form_step, forms_short}
-use Rattle.term_tree.specs.Syntax.{gen, sum, transpose}
+use Rattle.term_tree.specs.Syntax.{flatten, gen, sum, transpose}
 use Rattle.term_tree.specs.declared.term.Term.{Term}
-use Rattle.term_tree.proofs.Folds.{fold-gen, fold-sum, fold-transpose}
+use Rattle.term_tree.proofs.Folds.{fold-flatten, fold-gen, fold-sum, fold-transpose}
 use Rattle.term_tree.proofs.FormLaws.{every_form-weaker}
 use Rattle.path_focus.specs.Outcome.{IsDraft, IsOutcome, Makes, Meant, Unfit, Unlike}
 use Rattle.path_focus.specs.declared.outcome.Draft.TheVariants.{Whole, TooLarge, TooLong, TooMany}
@@ -79,6 +79,22 @@ module _ (raw : Term) where
 
   pub transpose_many : (k m : ℕ) → m ≡ min (k + 1) (2 ^ 64 - 1) → IsDraft raw (TooMany k) → IsDraft (transpose raw) (TooMany m)
   transpose_many = grows_many raw (transpose raw) transpose-fits transpose-short refl
+
+module _ (raw : Term) where
+  flatten-fits : coefficients_fit (flatten raw) ≡ coefficients_fit raw
+  flatten-fits = fold-flatten Bool (form_step form_fits) raw
+
+  flatten-short : forms_short (flatten raw) ≡ forms_short raw
+  flatten-short = fold-flatten Bool (form_step is_short) raw
+
+  pub flatten_large : IsDraft raw TooLarge → IsDraft (flatten raw) TooLarge
+  flatten_large = grows_large raw (flatten raw) flatten-fits flatten-short refl
+
+  pub flatten_long : IsDraft raw TooLong → IsDraft (flatten raw) TooLong
+  flatten_long = grows_long raw (flatten raw) flatten-fits flatten-short refl
+
+  pub flatten_many : (k m : ℕ) → m ≡ min (k + 1) (2 ^ 64 - 1) → IsDraft raw (TooMany k) → IsDraft (flatten raw) (TooMany m)
+  flatten_many = grows_many raw (flatten raw) flatten-fits flatten-short refl
 
 -- a pattern or arguments that do not fit
 pub unlike : (m : Meant) → m ≡ Unlike → IsOutcome m NoPattern

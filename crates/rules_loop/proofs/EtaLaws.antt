@@ -1,5 +1,5 @@
 -- A gen of the rows of a term is the term.
-use Rattle.std.proofs.Common.{◌≡◌, ℕ, zero, suc, ◌+◌, ◌<◌, List, [], ◌∷◌, length, get_or, refl, ap, sym, ◌∙◌, subst, arith, Bool, true, false, ◌&&◌, not, Ok, Err, IsOk}
+use Rattle.std.proofs.Common.{◌≡◌, ℕ, ◌+◌, List, [], ◌∷◌, length, get_or, refl, ap, sym, ◌∙◌, subst, Bool, true, false, ◌&&◌, not, Ok, Err, IsOk}
 use Rattle.std.specs.Prelude.{pos}
 use Rattle.std.proofs.lemmas.Bool.{and_parts, not-true}
 use Rattle.affine_index.specs.Form.{literal_form, var_form}
@@ -15,11 +15,11 @@ use Rattle.binders.proofs.PlainLaws.{value-var_form}
 use Rattle.binders.proofs.Substitution.{AllOrdered}
 use Rattle.binders.proofs.UsesLaws.{ignores_index}
 use Rattle.fact_list.specs.Facts.{binders}
-use Rattle.shape_rules.specs.Fits.{AllShaped, ShapesFit}
+use Rattle.shape_rules.specs.Fits.{AllShaped}
 use Rattle.shape_rules.specs.Faults.{IsFault}
 use Rattle.shape_rules.specs.Rules.{row_shape}
 use Rattle.shape_rules.specs.Scopes.{given}
-use Rattle.shape_rules.specs.Values.{AllHaveValues, HaveValues, NoneNegative}
+use Rattle.shape_rules.specs.Values.{HaveValues, NoneNegative}
 use Rattle.shape_rules.specs.declared.fault.ShapeFault.{ShapeFault}
 use Rattle.shape_rules.specs.declared.fault.ShapeFault.TheVariants.{InputRank, RankMismatch, ShapesDiffer, RankTooLarge, CoefficientTooLarge, IndexTooLong}
 use Rattle.shape_rules.specs.declared.fault.ShapeFault.TheVariants.{Memory}

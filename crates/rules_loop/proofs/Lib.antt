@@ -1,7 +1,9 @@
 pub mod ApplyLaws
 pub mod BetaLaw
+pub mod Coefficients
 pub mod DraftLaws
 pub mod EtaLaws
+pub mod FormedLaws
 pub mod IndexLaws
 pub mod Parts
 pub mod PatternLaws
@@ -11,3 +13,7 @@ pub mod RowLaws
 pub mod ShapeLaws
 pub mod SumLaws
 pub mod SwapLaws
+pub mod TileForms
+pub mod TileRows
+pub mod TileShapes
+pub mod TilingLaws

@@ -2,11 +2,11 @@
 use Rattle.std.proofs.Common.{◌≡◌, refl, sym, ◌∙◌}
 use Rattle.affine_index.specs.declared.form.Items.{Items}
 use Rattle.path_focus.specs.Outcome.{Meant, Unlike}
-use Rattle.rules_loop.specs.Patterns.{on_add, on_either, on_gen, on_index, on_sum}
-use Rattle.term_tree.specs.Syntax.{add, gen, index, sub, sum}
+use Rattle.rules_loop.specs.Patterns.{on_add, on_either, on_flatten, on_gen, on_index, on_sum}
+use Rattle.term_tree.specs.Syntax.{add, flatten, gen, index, sub, sum}
 use Rattle.term_tree.specs.declared.term.Term.{Term}
-use Rattle.term_tree.specs.declared.term.Term.TheVariants.{Add, Gen, Index, Sub, Sum}
-use Rattle.term_tree.proofs.Forms.{Add-is, Gen-is, Index-is, Sub-is, Sum-is}
+use Rattle.term_tree.specs.declared.term.Term.TheVariants.{Add, Flatten, Gen, Index, Sub, Sum}
+use Rattle.term_tree.proofs.Forms.{Add-is, Flatten-is, Gen-is, Index-is, Sub-is, Sum-is}
 
 pub not_index : (t : Term) → ((e : Term) (x : Items) → t ≡ Index e x → ⊥) → (f : Term → Items → Meant) → on_index t f ≡ Unlike
 not_index (index e x) h f = absurd (h e x (sym (Index-is e x)))
@@ -19,6 +19,10 @@ not_gen _ h f = refl
 pub not_sum : (t : Term) → ((n : Items) (e : Term) → t ≡ Sum n e → ⊥) → (f : Items → Term → Meant) → on_sum t f ≡ Unlike
 not_sum (sum n e) h f = absurd (h n e (sym (Sum-is n e)))
 not_sum _ h f = refl
+
+pub not_flatten : (t : Term) → ((e : Term) → t ≡ Flatten e → ⊥) → (f : Term → Meant) → on_flatten t f ≡ Unlike
+not_flatten (flatten e) h f = absurd (h e (sym (Flatten-is e)))
+not_flatten _ h f = refl
 
 pub not_add : (t : Term) → ((a b : Term) → t ≡ Add a b → ⊥) → (f : Term → Term → Meant) → on_add t f ≡ Unlike
 not_add (add a b) h f = absurd (h a b (sym (Add-is a b)))
@@ -40,6 +44,11 @@ is_sum t n e h = h ∙ Sum-is n e
 
 pub is_add : (t a b : Term) → t ≡ Add a b → t ≡ add a b
 is_add t a b h = h ∙ Add-is a b
+
+pub is_flatten : (t e : Term) → t ≡ Flatten e → t ≡ flatten e
+is_flatten t e h = h ∙ Flatten-is e
+
+pub ruleset flatten_parts = (not_flatten, is_flatten)
 
 pub ruleset index_parts = (not_index, is_index)
 

@@ -5,6 +5,7 @@ use Rattle.std.specs.Prelude.{pos}
 use Rattle.affine_index.specs.Form.{literal_form, var_form}
 use Rattle.affine_index.specs.Limited.{items_scoped}
 use Rattle.affine_index.specs.Put.{given as given_form, numbers_fit}
+use Rattle.affine_index.specs.Quotient.{quotient_of, remainder_of}
 use Rattle.affine_index.specs.declared.form.Items.{Items}
 use Rattle.affine_index.proofs.ScopedMoves.{form-fits}
 use Rattle.binders.specs.Answers.{IsWithinReach}
@@ -23,6 +24,8 @@ use Rattle.path_focus.specs.declared.place.Focus.{Focus}
 use Rattle.path_focus.proofs.CountLaws.{depth_nodes, one_put}
 use Rattle.rules_loop.proofs.EtaLaws.{literal-scoped}
 use Rattle.rules_loop.proofs.SwapLaws.{var-scoped}
+use Rattle.rules_loop.proofs.TileForms.{place-scoped, quotient-scoped, remainder-scoped}
+use Rattle.rules_loop.specs.Tilings.{tile_place}
 
 -- no more binders than facts
 binders_few : (ps : List PathFact) → binders ps ≤ length ps
@@ -103,3 +106,42 @@ module _ (f : Focus) (p : IsProper f) where
   lowered_reach n a x q =
       let s = small_of (gen n (index a x)) q in
       one_put sizes vars tensors (literal_form (pos 0)) a vars_few (omega (arith, s)) (literal-scoped sizes vars 0) (array_scope n a x q)
+
+  -- a place in a tile for the variable of a gen or sum
+  pub tile_reach : (e b : Term) (n : Items) (k : ℕ) → f.term ≡ e → node_count e ≡ node_count b + 1
+      → term_scoped sizes e vars tensors ≡ (items_scoped sizes 0 n && term_scoped sizes b (vars + 1) tensors)
+      → (node_depth b ≤ 2147483647) × IsWithinReach (put_index_reach (tile_place k ∷ []) 2) b
+  tile_reach e b n k q count scope =
+      let d = depth_nodes b in
+      let s = small_of e q in
+      let c = and_parts (items_scoped sizes 0 n) (term_scoped sizes b (vars + 1) tensors) (sym scope ∙ scope_of e q) in (
+        omega (arith, d, s, count),
+        put_index_within (tile_place k ∷ []) 2 (vars + 2) sizes (vars + 1) tensors b forms (omega (arith, d, s, count, vars_few))
+            (omega (arith, d, s, count, vars_few)) c.1,
+      )
+    where
+      forms : (j : ℕ) → j < 1 → items_scoped sizes (vars + 2) (given_form (tile_place k ∷ []) j) ≡ true
+      forms zero l = place-scoped sizes (vars + 2) k (omega arith)
+      forms (suc j) l = absurd (omega (arith, l))
+
+  -- the parts of a variable for those of two gens
+  pub fuse_reach : (e b : Term) (n m : Items) (k : ℕ) → f.term ≡ e → node_count e ≡ node_count b + 1 + 1 + 1
+      → term_scoped sizes e vars tensors ≡ (items_scoped sizes 0 n && (items_scoped sizes 0 m && term_scoped sizes b (vars + 1 + 1) tensors))
+      → (node_depth b ≤ 2147483647) × IsWithinReach (put_index_reach (remainder_of (var_form 0) k ∷ quotient_of (var_form 0) k ∷ []) 1) b
+  fuse_reach e b n m k q count scope =
+      let d = depth_nodes b in
+      let s = small_of e q in
+      let c = and_parts (items_scoped sizes 0 n) (items_scoped sizes 0 m && term_scoped sizes b (vars + 1 + 1) tensors) (sym scope ∙ scope_of e q) in
+      let inner = and_parts (items_scoped sizes 0 m) (term_scoped sizes b (vars + 1 + 1) tensors) c.1 in (
+        omega (arith, d, s, count),
+        put_index_within (remainder_of (var_form 0) k ∷ quotient_of (var_form 0) k ∷ []) 1 (vars + 1) sizes (vars + 1 + 1) tensors b forms
+            (omega (arith, d, s, count, vars_few)) (omega (arith, d, s, count, vars_few)) inner.1,
+      )
+    where
+      last : items_scoped sizes (vars + 1) (var_form 0) ≡ true
+      last = var-scoped sizes (vars + 1) 0 (omega arith)
+
+      forms : (j : ℕ) → j < 2 → items_scoped sizes (vars + 1) (given_form (remainder_of (var_form 0) k ∷ quotient_of (var_form 0) k ∷ []) j) ≡ true
+      forms zero l = remainder-scoped sizes (vars + 1) k (var_form 0) last
+      forms (suc zero) l = quotient-scoped sizes (vars + 1) k (var_form 0) last
+      forms (suc (suc j)) l = absurd (omega (arith, l))

@@ -1,3 +1,5 @@
+pub mod Formed
 pub mod Patterns
 pub mod Table
+pub mod Tilings
 pub mod Rules

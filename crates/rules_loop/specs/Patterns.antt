@@ -3,7 +3,7 @@ use Rattle.std.specs.Prelude.{Bool, false, if◌then◌else◌, ◌∷◌, Ok}
 use Rattle.affine_index.specs.declared.form.Items.{Items}
 use Rattle.path_focus.specs.Outcome.{Meant, Unlike}
 use Rattle.term_tree.specs.Shape.{Shaped, same_form}
-use Rattle.term_tree.specs.Syntax.{index, gen, sum, add, sub}
+use Rattle.term_tree.specs.Syntax.{index, flatten, gen, sum, add, sub}
 use Rattle.term_tree.specs.declared.term.Term.{Term}
 
 abbrev pub on_index : Term → (Term → Items → Meant) → Meant
@@ -17,6 +17,10 @@ on_gen _ f = Unlike
 abbrev pub on_sum : Term → (Items → Term → Meant) → Meant
 on_sum (sum n e) f = f n e
 on_sum _ f = Unlike
+
+abbrev pub on_flatten : Term → (Term → Meant) → Meant
+on_flatten (flatten e) f = f e
+on_flatten _ f = Unlike
 
 abbrev pub on_add : Term → (Term → Term → Meant) → Meant
 on_add (add a b) f = f a b

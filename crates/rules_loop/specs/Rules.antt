@@ -7,8 +7,10 @@ use Rattle.path_focus.specs.declared.rule.Condition.{Condition}
 use Rattle.path_focus.specs.declared.rule.RuleFault.{RuleFault}
 use Rattle.path_focus.specs.declared.rule.RuleFault.TheVariants.{Memory}
 use Rattle.rules_loop.specs.Table as table
+use Rattle.rules_loop.specs.Tilings as tilings
 use Rattle.rules_loop.specs.declared.rules.LoopRule.{LoopRule}
 use Rattle.rules_loop.specs.declared.rules.LoopRule.TheVariants.{Beta, Eta, SwapGen, SwapSum, SumGen, GenSum, SumIndex, SumAdd, AddSum, AddIndex}
+use Rattle.rules_loop.specs.declared.rules.LoopRule.TheVariants.{SplitGen, SplitSum, SplitGenExact, FuseGen}
 
 -- what a rule makes of a focus and arguments
 abbrev pub rule_of : Focus → LoopRule → List Arg → Meant
@@ -22,6 +24,10 @@ rule_of f SumIndex = table.sum_index f
 rule_of f SumAdd = table.sum_add f
 rule_of f AddSum = table.add_sum f
 rule_of f AddIndex = table.add_index f
+rule_of f SplitGen = tilings.split_gen f
+rule_of f SplitSum = tilings.split_sum f
+rule_of f SplitGenExact = tilings.split_gen_exact f
+rule_of f FuseGen = tilings.fuse_gen f
 
 -- the conditions, unless memory runs out
 abbrev pub IsConditions : Result (List Condition) RuleFault → Result (List Condition) RuleFault → Type 0

@@ -14,7 +14,7 @@ use sqlite_items::{Boxed, Items};
 use std::alloc::Global;
 use term_tree::{Term, copy, told};
 
-fn boxed(alloc: Global, term: Term) -> Result<Boxed<Term>, CertRefusal>
+pub fn boxed(alloc: Global, term: Term) -> Result<Boxed<Term>, CertRefusal>
     ensures { IfOk result (λ e. e ≡ term) }
 {
     let term = Boxed::new(alloc, term)?;
@@ -79,6 +79,13 @@ pub fn transpose(alloc: Global, body: Boxed<Term>) -> Result<Boxed<Term>, CertRe
     ensures { IfOk result (λ e. e ≡ tree.transpose body) }
 {
     boxed(alloc, Term::Transpose(body))
+}
+
+#[tactic(auto, using(term_tree::proofs::Forms::term_forms))]
+pub fn flatten(alloc: Global, body: Boxed<Term>) -> Result<Boxed<Term>, CertRefusal>
+    ensures { IfOk result (λ e. e ≡ tree.flatten body) }
+{
+    boxed(alloc, Term::Flatten(body))
 }
 
 /// A copy of a term at a copy of an index.

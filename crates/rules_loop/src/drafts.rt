@@ -10,7 +10,7 @@ ghost use Rattle.term_tree.specs.Counts.{node_depth};
 ghost use Rattle.term_tree.specs.Syntax as tree;
 ghost use Rattle.term_tree.specs.declared.term.Term as spec;
 
-use crate::build::{copied_form, generated, sum, transpose};
+use crate::build::{copied_form, flatten, generated, sum, transpose};
 use affine_index::Aff;
 use fact_list::CertRefusal;
 use path_focus::Draft;
@@ -21,7 +21,7 @@ use term_tree::{Term, told};
 
 /// A term whose forms are within the limits.
 #[tactic(auto, using(crate::proofs::DraftLaws::whole_is))]
-fn whole(term: Boxed<Term>) -> Draft
+pub fn whole(term: Boxed<Term>) -> Draft
     ensures { IsDraft term result }
 {
     told(term.get());
@@ -29,7 +29,7 @@ fn whole(term: Boxed<Term>) -> Draft
 }
 
 /// So many nodes more.
-fn more(nodes: u64) -> Draft
+pub fn more(nodes: u64) -> Draft
     ensures { result ≡ Draft.TooMany (min (nodes + 1) (2 ^ 64 - 1)) }
 {
     Draft::TooMany {
@@ -78,6 +78,21 @@ pub fn transpose_of(alloc: Global, body: Draft) -> Result<Draft, CertRefusal>
     match body {
         Draft::Whole(body) => {
             let term = transpose(alloc, body)?;
+            Ok(whole(term))
+        }
+        Draft::TooLarge => Ok(Draft::TooLarge),
+        Draft::TooLong => Ok(Draft::TooLong),
+        Draft::TooMany { nodes } => Ok(more(nodes)),
+    }
+}
+
+#[tactic(auto, using(crate::proofs::DraftLaws::draft_laws))]
+pub fn flatten_of(alloc: Global, body: Draft) -> Result<Draft, CertRefusal>
+    ensures { (raw : spec.Term) → IsDraft raw body → IfOk result (IsDraft (tree.flatten raw)) }
+{
+    match body {
+        Draft::Whole(body) => {
+            let term = flatten(alloc, body)?;
             Ok(whole(term))
         }
         Draft::TooLarge => Ok(Draft::TooLarge),

@@ -2,6 +2,7 @@
 
 ghost use Rattle.path_focus.specs.Outcome.{RuleKeeps};
 ghost use Rattle.rules_loop.specs.Table as table;
+ghost use Rattle.rules_loop.specs.Tilings as tilings;
 
 /// A gen at an index that is shown to be one of its rows is its body there.
 pub fn beta_keeps()
@@ -51,4 +52,24 @@ pub fn add_sum_keeps()
 /// A row of a sum or a difference is that of the rows.
 pub fn add_index_keeps()
     ensures { RuleKeeps table.add_index }
+{}
+
+/// The rows of a gen are those of its tiles, of which the last may be guarded in part and is cut.
+pub fn split_gen_keeps()
+    ensures { RuleKeeps tilings.split_gen }
+{}
+
+/// A sum is the sum of the sums of its tiles, of which the last may be guarded in part.
+pub fn split_sum_keeps()
+    ensures { RuleKeeps tilings.split_sum }
+{}
+
+/// Tiles that hold the rows exactly need no guard.
+pub fn split_gen_exact_keeps()
+    ensures { RuleKeeps tilings.split_gen_exact }
+{}
+
+/// Rows of rows, flattened, are the rows of one gen.
+pub fn fuse_gen_keeps()
+    ensures { RuleKeeps tilings.fuse_gen }
 {}

@@ -3,11 +3,14 @@
 
 mod build;
 mod drafts;
+mod formed;
+mod fusing;
 pub mod laws;
 mod patterns;
 mod rows;
 mod rules;
 mod sums;
 mod swaps;
+mod tilings;
 
 pub use rules::{LoopRule, apply, conditions};

@@ -49,3 +49,13 @@ pub fn as_add(term: &Term) -> Option<(&Term, &Term)>
         _ => None,
     }
 }
+
+#[tactic(auto, using(crate::proofs::Parts::flatten_parts))]
+pub fn as_flatten(term: &Term) -> Option<&Term>
+    ensures { MatchOption result ((f : spec.Term → Meant) → on.on_flatten term.now f ≡ Unlike) (λ e. term.now ≡ tree.flatten e.now) }
+{
+    match term {
+        Term::Flatten(e) => Some(e.get()),
+        _ => None,
+    }
+}

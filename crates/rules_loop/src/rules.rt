@@ -5,9 +5,11 @@ ghost use Rattle.path_focus.specs.Focus.{IsProper, KeepsMeaning, KeepsShape};
 ghost use Rattle.path_focus.specs.Outcome.{Answers, IsOutcome, answer, conditions_of};
 ghost use Rattle.rules_loop.specs.Rules.{IsConditions, rule_of};
 
+use crate::fusing::{fuse_gen, split_gen_exact};
 use crate::rows::{beta, eta};
 use crate::sums::{add_index, add_sum, sum_add, sum_index};
 use crate::swaps::{gen_sum, sum_gen, swap_gen, swap_sum};
+use crate::tilings::{split_gen, split_sum};
 use fact_list::CertRefusal;
 use linear_cert::Lines;
 use path_focus::{Arg, Condition, Focus, Outcome, RuleFault, finish};
@@ -28,6 +30,10 @@ pub enum LoopRule {
     SumAdd,
     AddSum,
     AddIndex,
+    SplitGen,
+    SplitSum,
+    SplitGenExact,
+    FuseGen,
 }
 
 fn outcome(
@@ -50,6 +56,10 @@ fn outcome(
         LoopRule::SumAdd => sum_add(alloc, focus, args),
         LoopRule::AddSum => add_sum(alloc, focus, args),
         LoopRule::AddIndex => add_index(alloc, focus, args),
+        LoopRule::SplitGen => split_gen(alloc, focus, args),
+        LoopRule::SplitSum => split_sum(alloc, focus, args),
+        LoopRule::SplitGenExact => split_gen_exact(alloc, focus, args),
+        LoopRule::FuseGen => fuse_gen(alloc, focus, args),
     }
 }
 

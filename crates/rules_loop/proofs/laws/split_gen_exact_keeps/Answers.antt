@@ -1,0 +1,5 @@
+use Rattle.rules_loop.proofs.TilingLaws.{split_gen_exact_keeps as law}
+use Rattle.rules_loop.proofs.laws.split_gen_exact_keeps.Goals as goal
+
+pub returns : goal.returns
+returns c = law
