@@ -1,0 +1,5 @@
+//! Worked rows of scripts on sources, as tests, so that `schedule_run` is not proved with them each time.
+#![tactic(auto)]
+
+#[cfg(test)]
+mod tests;
