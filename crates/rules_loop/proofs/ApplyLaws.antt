@@ -102,7 +102,8 @@ listed f p AddIndex as' = at_index f.term _ (λ e x. at_either e _ _ (λ a b. wi
 listed f p SplitGen as' = at_gen f.term _ (λ n b. with_tiles as' _ (λ k. no_conditions))
 listed f p SplitSum as' = at_sum f.term _ (λ n b. with_tiles as' _ (λ k. no_conditions))
 listed f p SplitGenExact as' = at_gen f.term _ (λ n b. with_tiles as' _ (λ k. if_fit (divides k n) _ no_conditions))
-listed f p FuseGen as' = at_flatten f.term _ (λ e. at_gen e _ (λ n d. at_gen d _ (λ m b. with_number_of (tile_of m) Unlike _ tt (λ k. with_none as' _ no_conditions))))
+listed f p FuseGen as' =
+    at_flatten f.term _ (λ e. at_gen e _ (λ n d. at_gen d _ (λ m b. with_number_of (tile_of m) Unlike _ tt (λ k. with_none as' _ no_conditions))))
 
 made_listed : (m : Meant) (o : Outcome) → MeantListed m → IsOutcome m o → MadeListed o
 made_listed m NoPattern l h = tt

@@ -132,7 +132,8 @@ module _ (x : Atom) where
       let q = int_div_euclid t.coefficient (pos k) in
       let o = atom_order t.atom x in
       let parts = and_parts (int_eq (int_rem_euclid t.coefficient (pos k)) (pos 0)) (divides_terms k ts) h in
-      let whole : pos k *ℤ q ≡ t.coefficient = omega (arith, ints, quotient-rest k t.coefficient p, int_eq-zero (int_rem_euclid t.coefficient (pos k)) parts.0) in
+      let whole : pos k *ℤ q ≡ t.coefficient =
+      omega (arith, ints, quotient-rest k t.coefficient p, int_eq-zero (int_rem_euclid t.coefficient (pos k)) parts.0) in
       ap (λ y. pos k *ℤ y) (item_if-at (int_eq q (pos 0)) (record { atom = t.atom; coefficient = q }) (whole_terms k ts) (int_eq-zero q))
       ∙ times-plus (pos k) (where_equal o q) (coefficient (whole_terms k ts) x)
       ∙ (λ i. (sym (where_times o (pos k) q) ∙ ap (where_equal o) whole) i +ℤ wholes-at k ts p parts.1 i)
@@ -183,7 +184,8 @@ not_zero c h e = differ (ap (λ (z : ℤ). int_eq z (pos 0)) (sym e) ∙ h)
     differ : true ≡ false → ⊥
     differ h = absurd (cc)
 
-one_front : (t u : Item Atom) (ts us : List (Item Atom)) (o : Ordering) → atom_order t.atom u.atom ≡ o → Sorted (t ∷ ts) → NonZero t → Sorted (u ∷ us) → NonZero u
+one_front : (t u : Item Atom) (ts us : List (Item Atom)) (o : Ordering) → atom_order t.atom u.atom ≡ o → Sorted (t ∷ ts) → NonZero t → Sorted (u ∷ us)
+    → NonZero u
     → ((x : Atom) → coefficient (t ∷ ts) x ≡ coefficient (u ∷ us) x)
     → (((x : Atom) → coefficient ts x ≡ coefficient us x) → ts ≡ us) → t ∷ ts ≡ u ∷ us
 one_front t u ts us Less e st nt su nu h later =

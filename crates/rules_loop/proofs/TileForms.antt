@@ -80,7 +80,8 @@ module _ (sizes : ℕ) where
   difference-scoped w a b h g = of-form sizes w (difference_of a b) (difference-form sizes w a b (form-of sizes w a h) (form-of sizes w b g))
 
   pub tiles-scoped : (w k : ℕ) (n : Items) → items_scoped sizes w n ≡ true → items_scoped sizes w (tiles k n) ≡ true
-  tiles-scoped w k n h = quotient-scoped w k (sum_of n (literal_form (pos (k - 1)))) (sum-scoped w n (literal_form (pos (k - 1))) h (literal-scoped w (pos (k - 1))))
+  tiles-scoped w k n h = quotient-scoped w k (sum_of n (literal_form (pos (k - 1))))
+      (sum-scoped w n (literal_form (pos (k - 1))) h (literal-scoped w (pos (k - 1))))
 
   pub rest-scoped : (w k : ℕ) (n : Items) → items_scoped sizes w n ≡ true → items_scoped sizes w (tile_rest k n) ≡ true
   rest-scoped w k n h = difference-scoped w (scaled (pos k) (tiles k n)) n (scaled-scoped w (pos k) (tiles k n) (tiles-scoped w k n h)) h

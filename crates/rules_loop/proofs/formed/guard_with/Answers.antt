@@ -11,7 +11,9 @@ use Rattle.rules_loop.proofs.formed.guard_with.Goals as goal
 pub returns-in_ok-term-in-Both : goal.returns-in_ok-term-in-Both
 returns-in_ok-term-in-Both c = λ x e f h.
     let j = subst (λ (r : Pair). IsJoined x e r) c.in-Both.is (c.joined.ensures x e f h) in
-    subst (λ (t : Term). IsDraft t c.whole.result) (c.in_ok-term-in-Both.ensures {u = tt} ∙ (λ i. guard (record { all = Ge (j.0 i) ∷ [] }) (j.1 i))) c.whole.ensures
+    subst (λ (t : Term). IsDraft t c.whole.result) (c.in_ok-term-in-Both.ensures {u = tt} ∙ (λ i. guard (record { all = Ge (j.0 i) ∷ [] }) (j.1 i)))
+    c.whole.ensures
 
 pub returns-in-Neither : goal.returns-in-Neither
-returns-in-Neither c = λ x e f h. subst (λ (r : Pair). IsJoined x e r) c.in-Neither.is (c.joined.ensures x e f h) (guard (record { all = Ge x ∷ [] }) e) (guard_node x e)
+returns-in-Neither c = λ x e f h.
+    subst (λ (r : Pair). IsJoined x e r) c.in-Neither.is (c.joined.ensures x e f h) (guard (record { all = Ge x ∷ [] }) e) (guard_node x e)
