@@ -34,9 +34,17 @@ add_rule t =
     if bytes_eq t (codes "add_sum") then Some loop.AddSum
     else (if bytes_eq t (codes "add_index") then Some loop.AddIndex else None)
 
+-- a rule of gens and sums in tiles
+abbrev pub tile_rule : Text → Option LoopRule
+tile_rule t =
+    if bytes_eq t (codes "split_gen") then Some loop.SplitGen
+    else (if bytes_eq t (codes "split_gen_exact") then Some loop.SplitGenExact
+    else (if bytes_eq t (codes "split_sum") then Some loop.SplitSum
+    else (if bytes_eq t (codes "fuse_gen") then Some loop.FuseGen else None)))
+
 -- a rule of gens and sums
 abbrev pub loop_rule : Text → Option LoopRule
-loop_rule t = or_else (gen_rule t) (or_else (sum_rule t) (add_rule t))
+loop_rule t = or_else (gen_rule t) (or_else (sum_rule t) (or_else (add_rule t) (tile_rule t)))
 
 -- the rule of this name, of the families that are built
 abbrev pub rule_named : Text → Option Rule

@@ -55,6 +55,22 @@ fn add_rule(name: &str) -> Option<LoopRule>
     }
 }
 
+fn tile_rule(name: &str) -> Option<LoopRule>
+    ensures { result ≡ spec.tile_rule name.now }
+{
+    if name == "split_gen" {
+        Some(LoopRule::SplitGen)
+    } else if name == "split_gen_exact" {
+        Some(LoopRule::SplitGenExact)
+    } else if name == "split_sum" {
+        Some(LoopRule::SplitSum)
+    } else if name == "fuse_gen" {
+        Some(LoopRule::FuseGen)
+    } else {
+        None
+    }
+}
+
 fn loop_rule(name: &str) -> Option<LoopRule>
     ensures { result ≡ spec.loop_rule name.now }
 {
@@ -62,7 +78,10 @@ fn loop_rule(name: &str) -> Option<LoopRule>
         Some(rule) => Some(rule),
         None => match sum_rule(name) {
             Some(rule) => Some(rule),
-            None => add_rule(name),
+            None => match add_rule(name) {
+                Some(rule) => Some(rule),
+                None => tile_rule(name),
+            },
         },
     }
 }
