@@ -75,6 +75,20 @@ ROWS = [
     ("atl 1; size N in 0..8; example N = 2; input A[N]; output B = sum i < N. let t = A[i] * A[i] in t * t;", [([3], [[1, 2, 3]], [[98]])]),
 ]
 
+# Sources under scripts: what the C leaves is what the source denotes, before any step.
+SCHEDULED = [
+    (SCALE.replace("0..8", "1..8") % "(gen j < N. A[j] * 2)[i]", "schedule 1; at 0.0 do beta;"),
+    ("atl 1; size N in 0..5; size M in 0..5; example N = 3, M = 2; input A[N][M]; output B = gen i < N. gen j < M. A[i][j];", "schedule 1; at 0 do swap_gen;"),
+    (
+        "atl 1; size N in 0..5; size M in 1..5; example N = 3, M = 2; input A[N][M]; output B = sum i < N. sum j < M. A[i][j] * A[i][0];",
+        "schedule 1; at 0 do swap_sum;",
+    ),
+    (
+        "atl 1; size N in 0..5; size M in 0..5; example N = 3, M = 2; input A[N][M]; output B = sum i < N. gen j < M. A[i][j];",
+        "schedule 1; at 0 do sum_gen; at 0 do gen_sum; at 0 do sum_gen;",
+    ),
+]
+
 TOKEN = re.compile(r"[ \t\r\n]+|#[^\n]*|(?P<t>[A-Za-z_]\w*|[0-9]+|\.\.|<=|>=|==|[;,.\[\]()<>=+*/%-])")
 BINDERS = ("gen", "sum", "guard", "let")
 SHAPES = ("concat", "flatten", "split", "transpose", "truncl", "truncr", "padl", "padr")
@@ -409,11 +423,16 @@ def call(command, folder):
     return ran.returncode, ran.stdout
 
 
-def fault(program, content, by_hand, dice, folder):
-    """What is wrong with the C text of this source, or None; and how many runs were compared."""
+def fault(program, content, script, by_hand, dice, folder):
+    """What is wrong with the C text of this source, under the script where there is one, or None; and how many runs were compared."""
+    words = [program, "compile", f"{folder}/source.atl"]
     with open(f"{folder}/source.atl", "w") as file:
         file.write(content)
-    ran = subprocess.run([program, "compile", f"{folder}/source.atl"], stdin=subprocess.DEVNULL, capture_output=True, text=True)
+    if script is not None:
+        words.append(f"{folder}/script.sched")
+        with open(f"{folder}/script.sched", "w") as file:
+            file.write(script)
+    ran = subprocess.run(words, stdin=subprocess.DEVNULL, capture_output=True, text=True)
     if ran.returncode:
         return f"it is not compiled: {ran.stderr.strip()}", 0
     with open(f"{folder}/text.c", "w") as file:
@@ -436,11 +455,14 @@ def main():
     top = os.path.dirname(os.path.dirname(os.path.abspath(__file__)))
     program = os.path.abspath(sys.argv[1]) if len(sys.argv) > 1 else f"{top}/crates/atl_cli/out/atl_cli"
     examples = sorted(glob.glob(f"{top}/examples/*.atl"))
-    todo = [(os.path.relpath(it, top), open(it).read(), []) for it in examples] + [(text, text, rows) for text, rows in ROWS]
+    todo = [(os.path.relpath(it, top), open(it).read(), None, []) for it in examples] + [(text, text, None, rows) for text, rows in ROWS]
+    for it in sorted(glob.glob(f"{top}/examples/*.sched")):
+        todo.append((os.path.relpath(it, top), open(it[:-5] + "atl").read(), open(it).read(), []))
+    todo += [(f"{text}\n  {script}", text, script, []) for text, script in SCHEDULED]
     dice, bad, runs = random.Random(1), 0, 0
     with tempfile.TemporaryDirectory() as folder:
-        for name, content, by_hand in todo:
-            said, compared = fault(program, content, by_hand, dice, folder)
+        for name, content, script, by_hand in todo:
+            said, compared = fault(program, content, script, by_hand, dice, folder)
             runs += compared
             if said:
                 bad += 1

@@ -1,5 +1,5 @@
 -- From what the reader, the rules of modules, the lowering and the printer say to what the compiler says.
-use Rattle.std.proofs.Common.{◌≡◌, ◌≢◌, inl, inr, ℕ, List, [], refl, ap, sym, subst, ◌∙◌, MatchResult, IfOk, Ok, Err, Some, None}
+use Rattle.std.proofs.Common.{◌≡◌, ◌≢◌, inl, inr, ℕ, List, refl, ap, sym, subst, ◌∙◌, MatchResult, IfOk, Ok, Err, Some, None}
 use Rattle.std.specs.Prelude.{IsErrOf}
 use Rattle.std.specs.declared.option.Option.{Option}
 use Rattle.std.specs.declared.result.Result.{Result}
@@ -26,9 +26,10 @@ use Rattle.lowering_laws.specs.Lowered.{loops_of}
 use Rattle.lowering_laws.specs.Nest.{module_nest, nests_of_program}
 use Rattle.c_print.specs.Program.{canonical_text}
 use Rattle.c_read.specs.Alone.{IsTextOfAlone}
-use Rattle.atl_driver.specs.Compile.{Answers, Tells, TellsAdmission, TellsFinal, admission_fault_of, compiled, compiled_as, fault_of, final_fault_of}
-use Rattle.atl_driver.specs.Compile.{judged_as, lowered_as, module_compiled}
-use Rattle.atl_driver.specs.Correct.{AreLoops, IsAdmitted, IsCompiled, IsRefusedSource, IsTextOf}
+use Rattle.linear_cert.specs.declared.lines.FinalLine.{FinalLine}
+use Rattle.atl_driver.specs.Compile.{Answers, Tells, TellsAdmission, TellsFinal, compiled, compiled_as, fault_of, judged_as, lowered_as, module_compiled}
+use Rattle.atl_driver.specs.Compile.{scheduled_as, script_of}
+use Rattle.atl_driver.specs.Correct.{AreLoops, IsAdmitted, IsCompiled, IsRefusedModule, IsRefusedScript, IsRefusedSource, IsTextUnder, IsTextOf}
 use Rattle.atl_driver.specs.declared.compile.CompileRefusal.{CompileRefusal}
 use Rattle.atl_driver.specs.declared.compile.CompileRefusal.TheVariants.{Refused, Memory}
 use Rattle.atl_driver.specs.declared.fault.Fault.{Fault}
@@ -42,93 +43,87 @@ text_of_one z m reads only = record { reads = reads; only = λ other is. same_mo
 
 module _ {A : Type 0} where
   -- the text of a program that is lowered from the module, whose printed text stands for it alone
-  pub are_loops : (m : Module) (marks : List Path) (p q : Prog) (r : Result (Vec ℕ A) CompileRefusal) → marks ≡ [] → p ≡ loops_of m marks → q ≡ p
+  pub are_loops : (m : Module) (fs : List FinalLine) (marks : List Path) (p q : Prog) (r : Result (Vec ℕ A) CompileRefusal) → p ≡ loops_of m marks → q ≡ p
       → IsWellFormed p → HasLengths m p → IsCorrect m p → IsTextOfAlone (canonical_text (loops_of m marks)) (loops_of m marks)
-      → nests_of_program p ≡ module_nest m marks → final_fault m [] [] ≡ None
+      → nests_of_program p ≡ module_nest m marks → final_fault m fs marks ≡ None
       → MatchResult r (λ text. text.items ≡ canonical_text q) (λ refusal. refusal ≡ Memory)
-      → MatchResult r (λ text. AreLoops m text.items) (λ refusal. refusal ≡ Memory)
-  are_loops m marks p q (Ok text) none loops same formed lengths correct text_of nests accepted prints =
+      → MatchResult r (λ text. AreLoops m fs marks text.items) (λ refusal. refusal ≡ Memory)
+  are_loops m fs marks p q (Ok text) loops same formed lengths correct text_of nests accepted prints =
       let z : text.items ≡ canonical_text p = prints ∙ ap canonical_text same in
       let own = subst (λ (x : Prog). IsTextOfAlone (canonical_text x) x) (sym loops) text_of in
       let whole = subst (λ (t : List ℕ). IsTextOfAlone t p) (sym z) own in
       record {
         accepted = accepted;
         program = p;
-        loops = loops ∙ ap (loops_of m) none;
+        loops = loops;
         prints = z;
         reads_back = whole.is;
         alone = whole.alone;
-        nests = nests ∙ ap (module_nest m) none;
+        nests = nests;
         formed = formed;
         lengths = lengths;
         correct = correct;
       }
-  are_loops m marks p q (Err e) none loops same formed lengths correct text_of nests accepted h = h
+  are_loops m fs marks p q (Err e) loops same formed lengths correct text_of nests accepted h = h
 
   -- of a module that may be lowered
-  pub lowered_answers : (m : Module) (r : Result (Vec ℕ A) CompileRefusal) → final_fault m [] [] ≡ None
-      → MatchResult r (λ text. AreLoops m text.items) (λ refusal. refusal ≡ Memory) → Answers (lowered_as (final_fault m [] []) m) r
-  lowered_answers m (Ok text) e h = ap (λ o. lowered_as o m) e ∙ ap (λ (t : List ℕ). Ok t) (sym (h.prints ∙ ap canonical_text h.loops))
-  lowered_answers m (Err (Refused fault)) e h = absurd (cc)
-  lowered_answers m (Err Memory) e h = tt
+  pub lowered_answers : (f : Module × List FinalLine × List Path) (m : Module) (fs : List FinalLine) (marks : List Path) (r : Result (Vec ℕ A) CompileRefusal)
+      → f ≡ (m, fs, marks) → final_fault m fs marks ≡ None
+      → MatchResult r (λ text. AreLoops f.0 f.1 f.2 text.items) (λ refusal. refusal ≡ Memory) → Answers (lowered_as (final_fault m fs marks) m marks) r
+  lowered_answers f m fs marks (Ok text) same e h =
+      let here = subst (λ (g : Module × List FinalLine × List Path). AreLoops g.0 g.1 g.2 text.items) same h in
+      ap (λ (o : Option FinalFault). lowered_as o m marks) e ∙ ap (λ (t : List ℕ). Ok t) (sym (here.prints ∙ ap canonical_text here.loops))
+  lowered_answers f m fs marks (Err (Refused fault)) same e h = absurd (cc)
+  lowered_answers f m fs marks (Err Memory) same e h = tt
 
-  pub lowered_loops : (m n : Module) (r : Result (Vec ℕ A) CompileRefusal) → m ≡ n
-      → MatchResult r (λ text. AreLoops m text.items) (λ refusal. refusal ≡ Memory) → IfOk r (λ text. AreLoops n text.items)
-  lowered_loops m n (Ok text) same h = subst (λ o. AreLoops o text.items) same h
-  lowered_loops m n (Err e) same h = tt
+  pub lowered_loops : (f : Module × List FinalLine × List Path) (m : Module) (fs : List FinalLine) (marks : List Path) (r : Result (Vec ℕ A) CompileRefusal)
+      → f ≡ (m, fs, marks) → MatchResult r (λ text. AreLoops f.0 f.1 f.2 text.items) (λ refusal. refusal ≡ Memory)
+      → IfOk r (λ text. AreLoops m fs marks text.items)
+  lowered_loops f m fs marks (Ok text) same h = subst (λ (g : Module × List FinalLine × List Path). AreLoops g.0 g.1 g.2 text.items) same h
+  lowered_loops f m fs marks (Err e) same h = tt
 
   -- of a module that is admitted
-  pub admitted_answers : (m : Module) (r : Result (Vec ℕ A) CompileRefusal) → Accepted m
-      → Answers (lowered_as (final_fault m [] []) m) r → Answers (module_compiled m) r
+  pub admitted_answers : (m : Module) (text : Option (List ℕ)) (r : Result (Vec ℕ A) CompileRefusal) → Accepted m
+      → Answers (scheduled_as (script_of text) m) r → Answers (module_compiled m text) r
   unfolding module_compiled
-  admitted_answers m r a h = subst (λ (o : Option AdmissionFault). Answers (judged_as o m) r) (sym a) h
+  admitted_answers m text r a h = subst (λ (o : Option AdmissionFault). Answers (judged_as o m text) r) (sym a) h
 
-  pub admitted_loops : (m : Module) (r : Result (Vec ℕ A) CompileRefusal) → IsAdmitted m → IfOk r (λ text. AreLoops m text.items)
-      → IfOk r (λ text. IsAdmitted m × AreLoops m text.items)
-  admitted_loops m (Ok text) a h = (a, h)
-  admitted_loops m (Err e) a h = tt
+  pub admitted_under : (m : Module) (script : Option (List ℕ)) (r : Result (Vec ℕ A) CompileRefusal) → IsAdmitted m
+      → IfOk r (λ text. IsTextUnder m script text.items) → IfOk r (λ text. IsAdmitted m × IsTextUnder m script text.items)
+  admitted_under m script (Ok text) a h = (a, h)
+  admitted_under m script (Err e) a h = tt
 
   -- of a source that is read
-  pub answers_read : (z : List ℕ) (m : Module) (r : Result (Vec ℕ A) CompileRefusal) → read_source z ≡ Ok m → Answers (module_compiled m) r
-      → Answers (compiled z) r
+  pub answers_read : (z : List ℕ) (script : Option (List ℕ)) (m : Module) (r : Result (Vec ℕ A) CompileRefusal) → read_source z ≡ Ok m
+      → Answers (module_compiled m script) r → Answers (compiled z script) r
   unfolding compiled
-  answers_read z m r e h = subst (λ (o : Result Module ReadFault). Answers (compiled_as o) r) (sym e) h
+  answers_read z script m r e h = subst (λ (o : Result Module ReadFault). Answers (compiled_as o script) r) (sym e) h
 
-  pub compiled_read : (z : List ℕ) (m : Module) (r : Result (Vec ℕ A) CompileRefusal) → IsTextOf z m
-      → IfOk r (λ text. IsAdmitted m × AreLoops m text.items) → IfOk r (λ text. IsCompiled z text.items)
-  compiled_read z m (Ok text) reads h = record { origin = m; reads = reads; admitted = h.0; loops = h.1 }
-  compiled_read z m (Err e) reads h = tt
+  pub compiled_read : (z : List ℕ) (script : Option (List ℕ)) (m : Module) (r : Result (Vec ℕ A) CompileRefusal) → IsTextOf z m
+      → IfOk r (λ text. IsAdmitted m × IsTextUnder m script text.items) → IfOk r (λ text. IsCompiled z script text.items)
+  compiled_read z script m (Ok text) reads h = record { origin = m; reads = reads; admitted = h.0; under = h.1 }
+  compiled_read z script m (Err e) reads h = tt
 
   -- the cause of a fault of a module that is read
-  pub refused_read : (z : List ℕ) (m : Module) (r : Result (Vec ℕ A) CompileRefusal) → IsTextOf z m → Answers (module_compiled m) r
-      → (fault : Fault) → IsErrOf r (Refused fault) → IsRefusedSource z fault
-  unfolding module_compiled
-  refused_read z m (Ok text) reads h fault is = absurd (cc)
-  refused_read z m (Err Memory) reads h fault is = absurd (cc)
-  refused_read z m (Err (Refused told)) reads h fault is =
-      let same : told ≡ fault = cc in
-      by (admission_fault m) refl (h ∙ ap (λ (f : Fault). Err f) same)
-    where
-      by_form : admission_fault m ≡ None → (o : Option FinalFault) → final_fault m [] [] ≡ o → lowered_as o m ≡ Err fault → IsRefusedSource z fault
-      by_form a None e h = absurd (cc)
-      by_form a (Some broken) e h =
-          let same : final_fault_of broken ≡ fault = cc in
-          inr (inr (record { origin = m; reads = reads; admitted = a; broken = broken; first = e; told = sym same }))
+  pub refused_read : (z : List ℕ) (script : Option (List ℕ)) (m : Module) (r : Result (Vec ℕ A) CompileRefusal) → IsTextOf z m
+      → ((fault : Fault) → IsErrOf r (Refused fault) → IsRefusedModule m script fault)
+      → (fault : Fault) → IsErrOf r (Refused fault) → IsRefusedSource z script fault
+  refused_read z script m r reads h fault is = inr (record { origin = m; reads = reads; why = h fault is })
 
-      by : (o : Option AdmissionFault) → admission_fault m ≡ o → judged_as o m ≡ Err fault → IsRefusedSource z fault
-      by None e h = by_form e (final_fault m [] []) refl h
-      by (Some broken) e h =
-          let same : admission_fault_of broken ≡ fault = cc in
-          inr (inl (record { origin = m; reads = reads; broken = broken; first = e; told = sym same }))
+  -- the cause of a fault of a module that is admitted
+  pub refused_admitted : (m : Module) (script : Option (List ℕ)) (r : Result (Vec ℕ A) CompileRefusal) → Accepted m
+      → ((fault : Fault) → IsErrOf r (Refused fault) → IsRefusedScript m script fault)
+      → (fault : Fault) → IsErrOf r (Refused fault) → IsRefusedModule m script fault
+  refused_admitted m script r a h fault is = inr (a, h fault is)
 
 -- of a module that may not be lowered
-pub unlowerable_answers : (A : Type 0) (m : Module) (fault : FinalFault) (refusal : CompileRefusal) → Refuses (final_fault m [] []) fault
-    → TellsFinal fault refusal → Answers {A = A} (lowered_as (final_fault m [] []) m) (Err refusal)
-unlowerable_answers A m fault Memory refuses tells = tt
-unlowerable_answers A m fault (Refused told) refuses tells =
-    ap (λ o. lowered_as o m) (due fault refuses tells.1) ∙ ap (λ (f : Fault). Err f) (sym tells.0)
+pub unlowerable_answers : (A : Type 0) (m : Module) (fs : List FinalLine) (marks : List Path) (fault : FinalFault) (refusal : CompileRefusal)
+    → Refuses (final_fault m fs marks) fault → TellsFinal fault refusal → Answers {A = A} (lowered_as (final_fault m fs marks) m marks) (Err refusal)
+unlowerable_answers A m fs marks fault Memory refuses tells = tt
+unlowerable_answers A m fs marks fault (Refused told) refuses tells =
+    ap (λ (o : Option FinalFault). lowered_as o m marks) (due fault refuses tells.1) ∙ ap (λ (f : Fault). Err f) (sym tells.0)
   where
-    due : (fault : FinalFault) → Refuses (final_fault m [] []) fault → fault ≢ final.Memory → final_fault m [] [] ≡ Some fault
+    due : (fault : FinalFault) → Refuses (final_fault m fs marks) fault → fault ≢ final.Memory → final_fault m fs marks ≡ Some fault
     due (final.NotLowerable path) h n = h
     due (final.NoSuchGoal line) h n = h
     due (final.AccessNotShown goal) h n = h
@@ -139,27 +134,36 @@ unlowerable_answers A m fault (Refused told) refuses tells =
     due (final.NestedParallel path) h n = h
     due final.Memory h n = absurd (n refl)
 
+broken_rule : (m : Module) (fault : AdmissionFault) → Judges (admission_fault m) fault → fault ≢ admission.Memory → admission_fault m ≡ Some fault
+broken_rule m (admission.Shape f) h n = h
+broken_rule m (admission.ExtentNotShown g) h n = h
+broken_rule m (admission.BadExample c) h n = h
+broken_rule m admission.Memory h n = absurd (n refl)
+
 -- of a module that is not admitted
-pub unadmitted_answers : (A : Type 0) (m : Module) (fault : AdmissionFault) (refusal : CompileRefusal) → Judges (admission_fault m) fault
-    → TellsAdmission fault refusal
-    → Answers {A = A} (module_compiled m) (Err refusal)
+pub unadmitted_answers : (A : Type 0) (m : Module) (text : Option (List ℕ)) (fault : AdmissionFault) (refusal : CompileRefusal)
+    → Judges (admission_fault m) fault → TellsAdmission fault refusal → Answers {A = A} (module_compiled m text) (Err refusal)
 unfolding module_compiled
-unadmitted_answers A m fault Memory judges tells = tt
-unadmitted_answers A m fault (Refused told) judges tells =
-    ap (λ o. judged_as o m) (due fault judges tells.1) ∙ ap (λ (f : Fault). Err f) (sym tells.0)
-  where
-    due : (fault : AdmissionFault) → Judges (admission_fault m) fault → fault ≢ admission.Memory → admission_fault m ≡ Some fault
-    due (admission.Shape f) h n = h
-    due (admission.ExtentNotShown g) h n = h
-    due (admission.BadExample c) h n = h
-    due admission.Memory h n = absurd (n refl)
+unadmitted_answers A m text fault Memory judges tells = tt
+unadmitted_answers A m text fault (Refused told) judges tells =
+    ap (λ (o : Option AdmissionFault). judged_as o m text) (broken_rule m fault judges tells.1) ∙ ap (λ (f : Fault). Err f) (sym tells.0)
+
+-- a fault that is told of a module that is not admitted
+pub refused_unadmitted : (A : Type 0) (m : Module) (script : Option (List ℕ)) (fault : AdmissionFault) (refusal : CompileRefusal)
+    → Judges (admission_fault m) fault → TellsAdmission fault refusal → (told : Fault) → IsErrOf {T = Vec ℕ A} (Err refusal) (Refused told)
+    → IsRefusedModule m script told
+refused_unadmitted A m script fault Memory judges tells told is = absurd (cc)
+refused_unadmitted A m script fault (Refused found) judges tells told is =
+    let same : found ≡ told = cc in
+    inl (record { broken = fault; first = broken_rule m fault judges tells.1; told = sym same ∙ tells.0 })
 
 -- of a source that is not read
-pub answers_unread : (A : Type 0) (z : List ℕ) (fault : ReadFault) (refusal : CompileRefusal) → Reads (Err fault) (read_source z) → Tells fault refusal
-    → Answers {A = A} (compiled z) (Err refusal)
+pub answers_unread : (A : Type 0) (z : List ℕ) (script : Option (List ℕ)) (fault : ReadFault) (refusal : CompileRefusal)
+    → Reads (Err fault) (read_source z) → Tells fault refusal → Answers {A = A} (compiled z script) (Err refusal)
 unfolding compiled
-answers_unread A z fault (Refused told) exact tells = ap compiled_as (exact tells.1) ∙ ap (λ (f : Fault). Err f) (sym tells.0)
-answers_unread A z fault Memory exact tells = tt
+answers_unread A z script fault (Refused told) exact tells =
+    ap (λ (o : Result Module ReadFault). compiled_as o script) (exact tells.1) ∙ ap (λ (f : Fault). Err f) (sym tells.0)
+answers_unread A z script fault Memory exact tells = tt
 
 not_ok : {P : Type 0} (fault : ReadFault) (m : Module) → Reads (Err fault) (Ok m) → fault ≢ read.Memory → P
 not_ok fault m h sure = let e = h sure in absurd (cc)
@@ -170,10 +174,10 @@ told_is fault (Refused f) told tells is = let same : f ≡ told = cc in (sym sam
 told_is fault Memory told tells is = absurd (cc)
 
 -- a fault that is told of a source that is not read
-pub refused_unread : (A : Type 0) (z : List ℕ) (fault : ReadFault) (refusal : CompileRefusal) → IsCause z fault → IsFirstFault z fault
-    → ((m : Module) → SourceText z m → Reads (Err fault) (Ok m)) → Tells fault refusal → (told : Fault) → IsErrOf {T = Vec ℕ A} (Err refusal) (Refused told)
-    → IsRefusedSource z told
-refused_unread A z fault refusal is_cause first only tells told is =
+pub refused_unread : (A : Type 0) (z : List ℕ) (script : Option (List ℕ)) (fault : ReadFault) (refusal : CompileRefusal) → IsCause z fault
+    → IsFirstFault z fault → ((m : Module) → SourceText z m → Reads (Err fault) (Ok m)) → Tells fault refusal → (told : Fault)
+    → IsErrOf {T = Vec ℕ A} (Err refusal) (Refused told) → IsRefusedSource z script told
+refused_unread A z script fault refusal is_cause first only tells told is =
     let same : refusal ≡ Refused told = cc in
     let cause = told_is fault refusal told tells same in
     inl (record {

@@ -1,5 +1,5 @@
 -- What is read has an output, and terms of few nodes that are not too deep.
-use Rattle.std.proofs.Common.{◌≡◌, ◌≢◌, ◌≤◌, ◌+◌, ◌==◌, ℕ, zero, suc, inl, inr, List, [], ◌∷◌, ◌++◌, length, ap, Bool, true, false, subst, sym, arith, Result}
+use Rattle.std.proofs.Common.{◌≡◌, ◌≢◌, ◌≤◌, ◌==◌, ℕ, zero, suc, inl, inr, List, [], ◌∷◌, ap, Bool, true, false, subst, sym, arith, Result}
 use Rattle.std.proofs.Common.{Ok}
 use Rattle.std.specs.Prelude.{All}
 use Rattle.text_tokens.specs.declared.kind.Kind.TheVariants as k
@@ -57,20 +57,14 @@ module-some version ws m r =
 pub source-some : (z : List ℕ) (m : Module) → SourceText z m → m.outputs ≢ []
 source-some z m r = module-some m.version (words_of (language m.version) z) m r.words
 
-each-few : (os : List OutputDecl) (most : ℕ) → nodes os ≤ most → All (λ (o : OutputDecl). node_count o.term ≤ most) os
+-- each of the terms has few nodes where all have together
+pub each-few : (os : List OutputDecl) (most : ℕ) → nodes os ≤ most → All (λ (o : OutputDecl). node_count o.term ≤ most) os
 each-few [] most h k d lt = absurd (omega (arith, lt))
 each-few (o ∷ os) most h zero d lt = omega (arith, h)
 each-few (o ∷ os) most h (suc k) d lt = each-few os most (omega (arith, h)) k d (omega (arith, lt))
 
--- each of its terms has few nodes
-pub source-few : (z : List ℕ) (m : Module) → SourceText z m → All (λ (o : OutputDecl). node_count o.term ≤ 20000) m.outputs
-source-few z m r = each-few m.outputs 20000 r.few
-
-each-shallow : (os : List OutputDecl) → AreShallow os → All (λ (o : OutputDecl). node_depth o.term ≤ 200) os
+-- none of the terms is too deep
+pub each-shallow : (os : List OutputDecl) → AreShallow os → All (λ (o : OutputDecl). node_depth o.term ≤ 200) os
 each-shallow [] h k d lt = absurd (omega (arith, lt))
 each-shallow (o ∷ os) h zero d lt = h.0
 each-shallow (o ∷ os) h (suc k) d lt = each-shallow os h.1 k d (omega (arith, lt))
-
--- none of its terms is too deep
-pub source-shallow : (z : List ℕ) (m : Module) → SourceText z m → All (λ (o : OutputDecl). node_depth o.term ≤ 200) m.outputs
-source-shallow z m r = each-shallow m.outputs r.shallow

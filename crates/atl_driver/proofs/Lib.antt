@@ -1,6 +1,7 @@
 pub mod CompileLaws
 pub mod Completes
+pub mod Contents
 pub mod DecideLaws
-pub mod FirstContent
 pub mod HasOutputs
 pub mod ReadLemmas
+pub mod ScheduleLaws

@@ -1,8 +1,9 @@
 -- What the files of a command come to.
-use Rattle.std.specs.Prelude.{◌≡◌, ◌≢◌, ℕ, Bool, true, false, List, [], ◌∷◌, Ok, Err, Option, Some, None, ⊤}
+use Rattle.std.specs.Prelude.{◌≡◌, ◌≢◌, ℕ, List, [], ◌∷◌, Ok, Err, Option, Some, None, ⊤}
 use Rattle.std.specs.declared.result.Result.{Result}
 use Rattle.std.specs.declared.vec.Vec.{Vec}
 use Rattle.term_tree.specs.declared.term.Module.{Module}
+use Rattle.term_tree.specs.declared.term.Path.{Path}
 use Rattle.shape_rules.specs.declared.fault.ShapeFault.{ShapeFault}
 use Rattle.shape_rules.specs.declared.fault.ShapeFault.TheVariants as shape
 use Rattle.atl_reader.specs.declared.fault.ReadFault.{ReadFault}
@@ -11,6 +12,16 @@ use Rattle.atl_reader.specs.Source.{read_source}
 use Rattle.admission.specs.Admission.{admission_fault}
 use Rattle.admission.specs.declared.fault.AdmissionFault.{AdmissionFault}
 use Rattle.admission.specs.declared.fault.AdmissionFault.TheVariants as admission
+use Rattle.schedule_script.specs.Script.{read_bytes}
+use Rattle.schedule_script.specs.declared.fault.ScriptFault.{ScriptFault}
+use Rattle.schedule_script.specs.declared.fault.ScriptFault.TheVariants as script
+use Rattle.schedule_script.specs.declared.tree.Script.{Script}
+use Rattle.path_focus.specs.declared.rule.RuleFault.{RuleFault}
+use Rattle.path_focus.specs.declared.rule.RuleFault.TheVariants as rule
+use Rattle.schedule_run.specs.Versions.{last_version_of}
+use Rattle.schedule_run.specs.declared.fault.StepFault.{StepFault}
+use Rattle.schedule_run.specs.declared.fault.StepKind.{StepKind}
+use Rattle.schedule_run.specs.declared.fault.StepKind.TheVariants as step
 use Rattle.final_rules.specs.Rules.{final_fault}
 use Rattle.final_rules.specs.declared.fault.FinalFault.{FinalFault}
 use Rattle.final_rules.specs.declared.fault.FinalFault.TheVariants as final
@@ -31,6 +42,14 @@ one_field number told = record { number = number; fields = told ∷ [] }
 -- a rule is broken at this place
 abbrev pub broken_at : ℕ → ℕ → Fault
 broken_at number at = one_field number (field.At at)
+
+-- a fault of two fields
+abbrev pub two_fields : ℕ → FaultField → FaultField → Fault
+two_fields number first second = record { number = number; fields = first ∷ second ∷ [] }
+
+-- this step breaks a rule
+abbrev pub broken_step : ℕ → ℕ → Fault
+broken_step number at = one_field number (field.Step at)
 
 -- want of memory is no fault, and has no number
 abbrev pub no_fault : Fault
@@ -81,23 +100,75 @@ final_fault_of (final.NestedParallel path) = one_field 37 (field.Path path)
 final_fault_of (final.NoSuchGoal line) = one_field 38 (field.Final line)
 final_fault_of final.Memory = no_fault
 
--- the text of an admitted module: without final lines and parallel gens
-abbrev pub lowered_as : Option FinalFault → Module → Result (List ℕ) Fault
-lowered_as None m = Ok (canonical_text (loops_of m []))
-lowered_as (Some fault) m = Err (final_fault_of fault)
+-- the fault of a script that is not read
+abbrev pub script_fault_of : ScriptFault → Fault
+script_fault_of (script.ScriptSyntax at) = broken_at 20 at
+script_fault_of script.Memory = no_fault
+
+-- the fault of a rule that makes nothing at this step
+abbrev pub rule_fault_of : ℕ → RuleFault → Fault
+rule_fault_of at rule.PatternMismatch = broken_step 23 at
+rule_fault_of at rule.BadArgument = broken_step 24 at
+rule_fault_of at rule.ExtraLines = broken_step 26 at
+rule_fault_of at (rule.ConditionNotShown condition) = two_fields 25 (field.Step at) (field.Condition condition)
+rule_fault_of at rule.CoefficientTooLarge = broken_step 16 at
+rule_fault_of at rule.IndexTooLong = broken_step 17 at
+rule_fault_of at (rule.TooManyNodes nodes) = two_fields 15 (field.Step at) (field.Nodes nodes)
+rule_fault_of at rule.Memory = no_fault
+
+-- the fault of this step, which fails so
+abbrev pub kind_fault_of : ℕ → StepKind → Fault
+kind_fault_of at step.NoSuchRule = broken_step 21 at
+kind_fault_of at step.NoSuchPath = broken_step 22 at
+kind_fault_of at (step.Rule fault) = rule_fault_of at fault
+kind_fault_of at step.TooDeep = broken_step 4 at
+kind_fault_of at step.RankTooLarge = broken_step 12 at
+kind_fault_of at (step.TooManyNodes nodes) = two_fields 15 (field.Step at) (field.Nodes nodes)
+kind_fault_of at step.CoefficientTooLarge = broken_step 16 at
+kind_fault_of at step.IndexTooLong = broken_step 17 at
+kind_fault_of at step.Memory = no_fault
+
+-- the fault of the first step that fails
+abbrev pub step_fault_of : StepFault → Fault
+step_fault_of fault = kind_fault_of fault.step fault.kind
+
+-- the text of a last version with these marks
+abbrev pub lowered_as : Option FinalFault → Module → List Path → Result (List ℕ) Fault
+lowered_as None last marks = Ok (canonical_text (loops_of last marks))
+lowered_as (Some fault) last marks = Err (final_fault_of fault)
+
+-- the text of the last version of a script's steps, with its final lines and marks
+abbrev pub staged_as : Result Module StepFault → Script → Result (List ℕ) Fault
+staged_as (Ok last) schedule = lowered_as (final_fault last schedule.finals schedule.parallel) last schedule.parallel
+staged_as (Err fault) schedule = Err (step_fault_of fault)
+
+-- the text of an admitted module under a script
+abbrev pub scheduled_as : Result Script ScriptFault → Module → Result (List ℕ) Fault
+scheduled_as (Ok schedule) origin = staged_as (last_version_of origin schedule.steps) schedule
+scheduled_as (Err fault) origin = Err (script_fault_of fault)
+
+-- the script without steps
+abbrev pub no_steps : Script
+no_steps = record { steps = []; finals = []; parallel = [] }
+
+-- the script of a text; no text is that of the script without steps
+abbrev pub script_of : Option (List ℕ) → Result Script ScriptFault
+script_of None = Ok no_steps
+script_of (Some text) = read_bytes text
 
 -- the text of a module with this verdict
-abbrev pub judged_as : Option AdmissionFault → Module → Result (List ℕ) Fault
-judged_as None m = lowered_as (final_fault m [] []) m
-judged_as (Some fault) m = Err (admission_fault_of fault)
+abbrev pub judged_as : Option AdmissionFault → Module → Option (List ℕ) → Result (List ℕ) Fault
+judged_as None origin text = scheduled_as (script_of text) origin
+judged_as (Some fault) origin text = Err (admission_fault_of fault)
 
--- the text of a module that was read, or its first fault: of the shapes, the extents, the example, and last of the final form
-unfoldable pub module_compiled : Module → Result (List ℕ) Fault
-module_compiled m = judged_as (admission_fault m) m
+-- the text of a module that was read, or its first fault: of the shapes, the extents, the example; of the script, of its steps in order, and of the final
+-- form of their last version
+unfoldable pub module_compiled : Module → Option (List ℕ) → Result (List ℕ) Fault
+module_compiled origin text = judged_as (admission_fault origin) origin text
 
-abbrev pub compiled_as : Result Module ReadFault → Result (List ℕ) Fault
-compiled_as (Ok m) = module_compiled m
-compiled_as (Err fault) = Err (fault_of fault)
+abbrev pub compiled_as : Result Module ReadFault → Option (List ℕ) → Result (List ℕ) Fault
+compiled_as (Ok origin) text = module_compiled origin text
+compiled_as (Err fault) text = Err (fault_of fault)
 
 -- the refusal tells this fault, or that memory did not suffice
 abbrev pub TellsFault : Fault → CompileRefusal → Type 0
@@ -119,18 +190,34 @@ abbrev pub TellsFinal : FinalFault → CompileRefusal → Type 0
 TellsFinal fault (Refused told) = (told ≡ final_fault_of fault) × (fault ≢ final.Memory)
 TellsFinal fault Memory = ⊤
 
--- the C text of a source, or its first fault
-unfoldable pub compiled : List ℕ → Result (List ℕ) Fault
-compiled source = compiled_as (read_source source)
+-- the refusal tells what was found in the script, or that memory did not suffice
+abbrev pub TellsScript : ScriptFault → CompileRefusal → Type 0
+TellsScript fault (Refused told) = (told ≡ script_fault_of fault) × (fault ≢ script.Memory)
+TellsScript fault Memory = ⊤
+
+-- the refusal tells which step fails and why, or that memory did not suffice
+abbrev pub TellsStep : StepFault → CompileRefusal → Type 0
+TellsStep fault (Refused told) = (told ≡ step_fault_of fault) × (fault.kind ≢ step.Memory)
+TellsStep fault Memory = ⊤
+
+-- the C text of a source under a script, where there is one, or the first fault
+unfoldable pub compiled : List ℕ → Option (List ℕ) → Result (List ℕ) Fault
+compiled source text = compiled_as (read_source source) text
 
 -- the first content, which a form with a file has
 abbrev pub first_content : List (List ℕ) → List ℕ
 first_content [] = []
 first_content (content ∷ contents) = content
 
+-- the second content, where a form has two files
+abbrev pub second_content : List (List ℕ) → Option (List ℕ)
+second_content [] = None
+second_content (first ∷ []) = None
+second_content (first ∷ second ∷ contents) = Some second
+
 -- the text for these contents, or their first fault
 unfoldable pub decided : Verb → List (List ℕ) → Result (List ℕ) Fault
-decided Compile contents = compiled (first_content contents)
+decided Compile contents = compiled (first_content contents) (second_content contents)
 
 module _ {A : Type 0} where
   -- the answer is the wanted one, or memory did not suffice

@@ -1,5 +1,5 @@
 -- The forms of the command line.
-use Rattle.std.specs.Prelude.{ℕ, Bool, false, ◌&&◌, not, ◌==◌, List, [], ◌∷◌, length, None, Some, if◌then◌else◌, bytes_eq, codes, map}
+use Rattle.std.specs.Prelude.{ℕ, Bool, false, not, ◌==◌, List, [], ◌∷◌, None, Some, if◌then◌else◌, bytes_eq, codes, map}
 use Rattle.std.specs.List.{list_all}
 use Rattle.std.specs.declared.option.Option.{Option}
 use Rattle.std.specs.declared.string.String.{String}
@@ -27,9 +27,16 @@ module _ {A : Type 0} where
   abbrev pub all_file_words : List (String A) → Bool
   all_file_words words = list_all (λ word. is_file_word (string_bytes word)) words
 
--- the command of this name with so many files
-abbrev pub verb_of : List ℕ → ℕ → Option Verb
-verb_of verb count = if bytes_eq verb (codes "compile") && (count == 1) then Some Compile else None
+-- `compile`, and nothing else
+abbrev pub compile_of : List ℕ → Option Verb
+compile_of name = if bytes_eq name (codes "compile") then Some Compile else None
+
+-- the command of this name with these words behind it: a source, or a source and a script
+abbrev pub verb_of : List ℕ → List (List ℕ) → Option Verb
+verb_of name [] = None
+verb_of name (source ∷ []) = compile_of name
+verb_of name (source ∷ script ∷ []) = compile_of name
+verb_of name (source ∷ script ∷ next ∷ more) = None
 
 -- the form of a command with its files
 abbrev pub form_with : Option Verb → List (List ℕ) → Option Form
@@ -40,7 +47,7 @@ module _ {A : Type 0} where
   -- the form of the words, if they have one
   abbrev pub form_of : List (String A) → Option Form
   form_of [] = None
-  form_of (verb ∷ files) = if all_file_words files then form_with (verb_of (string_bytes verb) (length files)) (texts files) else None
+  form_of (name ∷ files) = if all_file_words files then form_with (verb_of (string_bytes name) (texts files)) (texts files) else None
 
 -- a command as its form
 abbrev pub command_seen : Option Command → Option Form

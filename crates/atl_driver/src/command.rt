@@ -1,6 +1,6 @@
 // The words of the command line.
 ghost use Rattle.std.specs.Prelude.{◌≡◌};
-ghost use Rattle.atl_driver.specs.Form.{is_file_word, form_of, command_seen, all_file_words};
+ghost use Rattle.atl_driver.specs.Form.{is_file_word, form_of, command_seen, all_file_words, compile_of as compile_for, texts, verb_of as verb_for};
 
 /// What a command does with its files.
 #[derive(Clone, Copy, Debug, PartialEq, Eq)]
@@ -30,17 +30,34 @@ fn all_file_words(words: &[String]) -> bool
     words.iter().all(|word| is_file_word(word.as_str()))
 }
 
+fn compile_of(name: &str) -> Option<Verb>
+    ensures { result ≡ compile_for name.now }
+{
+    match name {
+        "compile" => Some(Verb::Compile),
+        _ => None,
+    }
+}
+
+/// The command of this name with these words behind it.
+fn verb_of(name: &str, words: &[String]) -> Option<Verb>
+    ensures { result ≡ verb_for name.now (texts words.now) }
+{
+    match words {
+        [_] => compile_of(name),
+        [_, _] => compile_of(name),
+        _ => None,
+    }
+}
+
 /// The command, if the words are of a form.
 pub fn read_command(words: &[String]) -> Option<Command<'_>>
     ensures { command_seen result ≡ form_of words.now }
 {
-    let (verb, files) = words.split_first()?;
+    let (name, files) = words.split_first()?;
     if !all_file_words(files) {
         return None;
     }
-    let verb = match (verb.as_str(), files.len()) {
-        ("compile", 1) => Verb::Compile,
-        _ => return None,
-    };
+    let verb = verb_of(name.as_str(), files)?;
     Some(Command { verb, files })
 }

@@ -1,6 +1,6 @@
 // From the contents of a command's files to its text.
-ghost use Rattle.std.specs.Prelude.{◌≡◌, ◌≤◌, length, IfOk, IsErrOf, map};
-ghost use Rattle.atl_driver.specs.Compile.{Answers, compiled, decided, first_content};
+ghost use Rattle.std.specs.Prelude.{◌≡◌, ◌≤◌, length, IfOk, IfSome, IsErrOf, map, option_copied};
+ghost use Rattle.atl_driver.specs.Compile.{Answers, compiled, decided, first_content, second_content};
 ghost use Rattle.atl_driver.specs.Correct.{IsCompiled, IsRefusedSource, IsRight, HasFault};
 ghost use Rattle.atl_driver.specs.declared.compile.CompileRefusal.TheVariants.{Memory};
 ghost use Rattle.atl_driver.specs.declared.fault.Fault.{Fault as FaultValue};
@@ -10,7 +10,6 @@ use crate::command::Verb;
 use crate::faults::unread;
 use crate::module_text::module_text;
 use atl_reader::read_module;
-use owned_values::spent;
 use std::alloc::{AllocError, AllocFailed, Global};
 
 /// Why a source has no text.
@@ -36,23 +35,25 @@ impl<T: Drop> From<AllocFailed<T>> for CompileRefusal {
     }
 }
 
-/// The C text of a source, or its first fault. Time is that of `read_module`, `admit`, `judge`, `lower` and `print_c`.
+/// The C text of a source under a script, where there is one, or the first fault. Time is that of `read_module`, `admit`, `read_script`,
+/// `last_version`, `judge`, `lower` and `print_c`.
 #[tactic(none)]
-pub fn compile_bytes(alloc: Global, source: &[u8]) -> Result<Vec<u8>, CompileRefusal>
-    requires { length source.now ≤ 2147483647 }
+pub fn compile_bytes(
+    alloc: Global,
+    source: &[u8],
+    script: Option<&[u8]>,
+) -> Result<Vec<u8>, CompileRefusal>
+    requires source { length source.now ≤ 2147483647 }
+    requires script { IfSome (option_copied script) (λ text. length text ≤ 2147483647) }
     // Which answer it is.
-    ensures answers { Answers (compiled source.now) result }
+    ensures answers { Answers (compiled source.now (option_copied script.entry)) result }
     // What is printed is right.
-    ensures correct { IfOk result (λ text. IsCompiled source.now text.items) }
+    ensures correct { IfOk result (λ text. IsCompiled source.now (option_copied script.entry) text.items) }
     // A fault has its cause.
-    ensures refused { (fault : FaultValue) → IsErrOf result (CompileRefusal.Refused fault) → IsRefusedSource source.now fault }
+    ensures refused { (fault : FaultValue) → IsErrOf result (CompileRefusal.Refused fault) → IsRefusedSource source.now (option_copied script.entry) fault }
 {
     match read_module(alloc, source) {
-        Ok(module) => {
-            let text = module_text(alloc, &module);
-            spent(module);
-            text
-        }
+        Ok(origin) => module_text(alloc, origin, script),
         Err(fault) => Err(unread(alloc, fault)),
     }
 }
@@ -67,6 +68,16 @@ fn first_of(contents: &[Vec<u8>]) -> &[u8]
     }
 }
 
+/// The second content, where there is one.
+fn second_of(contents: &[Vec<u8>]) -> Option<&[u8]>
+    ensures { option_copied result ≡ second_content (map (λ content. content.items) contents.now) }
+{
+    match contents {
+        [_, second, ..] => Some(second.as_slice()),
+        _ => None,
+    }
+}
+
 /// The text for the contents of a command's files, or their fault.
 #[tactic(none)]
 pub fn compile_all(
@@ -74,12 +85,13 @@ pub fn compile_all(
     verb: Verb,
     contents: &[Vec<u8>],
 ) -> Result<Vec<u8>, CompileRefusal>
-    requires { length (first_content (map (λ content. content.items) contents.now)) ≤ 1048576 }
+    requires first { length (first_content (map (λ content. content.items) contents.now)) ≤ 1048576 }
+    requires second { IfSome (second_content (map (λ content. content.items) contents.now)) (λ text. length text ≤ 1048576) }
     ensures answers { Answers (decided verb (map (λ content. content.items) contents.now)) result }
     ensures correct { IfOk result (λ text. IsRight verb (map (λ content. content.items) contents.now) text.items) }
     ensures refused { (fault : FaultValue) → IsErrOf result (CompileRefusal.Refused fault) → HasFault verb (map (λ content. content.items) contents.now) fault }
 {
     match verb {
-        Verb::Compile => compile_bytes(alloc, first_of(contents)),
+        Verb::Compile => compile_bytes(alloc, first_of(contents), second_of(contents)),
     }
 }

@@ -1,6 +1,7 @@
 // The faults of texts and modules, each a number and a field.
 ghost use Rattle.std.specs.Prelude.{◌≡◌, ◌≢◌, [], ◌∷◌, IfOk, MatchResult};
-ghost use Rattle.atl_driver.specs.Compile.{Tells, TellsAdmission, TellsFault, TellsFinal, admission_fault_of, fault_of as fault_for, one_field, shape_fault_of};
+ghost use Rattle.atl_driver.specs.Compile.{Tells, TellsAdmission, TellsFault, TellsFinal, TellsScript, TellsStep};
+ghost use Rattle.atl_driver.specs.Compile.{fault_of as fault_for, one_field, shape_fault_of, two_fields};
 ghost use Rattle.atl_driver.specs.declared.compile.CompileRefusal.TheVariants.{Memory};
 
 use crate::compile::CompileRefusal;
@@ -8,6 +9,9 @@ use crate::{Fault, FaultField, Fields};
 use admission::AdmissionFault;
 use atl_reader::ReadFault;
 use final_rules::FinalFault;
+use path_focus::RuleFault;
+use schedule_run::{StepFault, StepKind};
+use schedule_script::ScriptFault;
 use shape_rules::ShapeFault;
 use std::alloc::{AllocError, Global};
 
@@ -16,6 +20,21 @@ fn with_field(alloc: Global, number: u8, field: FaultField) -> Result<Fault, All
 {
     let mut fields = Vec::new(alloc);
     fields.push(field)?;
+    let fields = Fields::new(fields);
+    Ok(Fault { number, fields })
+}
+
+fn with_two(
+    alloc: Global,
+    number: u8,
+    first: FaultField,
+    second: FaultField,
+) -> Result<Fault, AllocError>
+    ensures { IfOk result (λ fault. fault ≡ two_fields number first second) }
+{
+    let mut fields = Vec::new(alloc);
+    fields.push(first)?;
+    fields.push(second)?;
     let fields = Fields::new(fields);
     Ok(Fault { number, fields })
 }
@@ -108,4 +127,66 @@ pub fn unlowerable(alloc: Global, fault: FinalFault) -> CompileRefusal
         FinalFault::Memory => return CompileRefusal::Memory,
     };
     refused(alloc, number, field)
+}
+
+/// The refusal of a script that is not read.
+pub fn unscripted(alloc: Global, fault: ScriptFault) -> CompileRefusal
+    ensures { TellsScript fault result }
+{
+    match fault {
+        ScriptFault::ScriptSyntax { at } => refused(alloc, 20, FaultField::At(at)),
+        ScriptFault::Memory => CompileRefusal::Memory,
+    }
+}
+
+/// The refusal with a step and another field.
+fn refused_at(alloc: Global, number: u8, step: u64, field: FaultField) -> CompileRefusal
+    ensures { TellsFault (two_fields number (FaultField.Step step) field) result }
+{
+    match with_two(alloc, number, FaultField::Step(step), field) {
+        Ok(fault) => CompileRefusal::Refused(fault),
+        Err(_) => CompileRefusal::Memory,
+    }
+}
+
+/// The refusal of a step whose rule makes nothing.
+fn unmade(alloc: Global, step: u64, fault: RuleFault) -> CompileRefusal
+    ensures { TellsStep (record { step = step; kind = StepKind.Rule fault }) result }
+{
+    let number = match fault {
+        RuleFault::PatternMismatch => 23,
+        RuleFault::BadArgument => 24,
+        RuleFault::ExtraLines => 26,
+        RuleFault::CoefficientTooLarge => 16,
+        RuleFault::IndexTooLong => 17,
+        RuleFault::ConditionNotShown { condition } => {
+            return refused_at(alloc, 25, step, FaultField::Condition(condition));
+        }
+        RuleFault::TooManyNodes { nodes } => {
+            return refused_at(alloc, 15, step, FaultField::Nodes(nodes));
+        }
+        RuleFault::Memory => return CompileRefusal::Memory,
+    };
+    refused(alloc, number, FaultField::Step(step))
+}
+
+/// The refusal of a script of which a step fails.
+pub fn unstaged(alloc: Global, fault: StepFault) -> CompileRefusal
+    ensures { TellsStep fault result }
+{
+    let step = fault.step;
+    let number = match fault.kind {
+        StepKind::NoSuchRule => 21,
+        StepKind::NoSuchPath => 22,
+        StepKind::TooDeep => 4,
+        StepKind::RankTooLarge => 12,
+        StepKind::CoefficientTooLarge => 16,
+        StepKind::IndexTooLong => 17,
+        StepKind::Rule(fault) => return unmade(alloc, step, fault),
+        StepKind::TooManyNodes { nodes } => {
+            return refused_at(alloc, 15, step, FaultField::Nodes(nodes));
+        }
+        StepKind::Memory => return CompileRefusal::Memory,
+    };
+    refused(alloc, number, FaultField::Step(step))
 }

@@ -7,6 +7,7 @@ mod decide;
 mod driver;
 mod fault;
 mod faults;
+mod last_text;
 mod line;
 mod module_text;
 mod reading;

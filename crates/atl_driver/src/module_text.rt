@@ -1,100 +1,113 @@
-// From a module that was read to its text.
-ghost use Rattle.std.specs.Prelude.{◌≡◌, ◌≢◌, ◌≤◌, [], All, length, true, IfOk, MatchResult, OnOk};
-ghost use Rattle.admission.specs.Admission.{Accepted, admission_fault};
-ghost use Rattle.loop_lang.specs.Form.{IsWellFormed};
-ghost use Rattle.lowering_laws.specs.Correct.{HasLengths, IsCorrect};
-ghost use Rattle.lowering_laws.specs.Lowered.{loops_of};
-ghost use Rattle.c_print.specs.Program.{canonical_text};
-ghost use Rattle.final_rules.specs.Rules.{final_fault};
-ghost use Rattle.term_tree.specs.Counts.{node_count, node_depth};
-ghost use Rattle.term_tree.specs.Modules.{Allowed, IsSound, module_scoped};
-ghost use Rattle.atl_driver.specs.Compile.{Answers, lowered_as, module_compiled};
-ghost use Rattle.atl_driver.specs.Correct.{AreLoops, IsAdmitted};
-ghost use Rattle.atl_driver.specs.declared.compile.CompileRefusal.TheVariants.{Memory};
+// From a module that was read, and the text of a script, to the C text.
+ghost use Rattle.std.specs.Prelude.{◌≡◌, ◌≢◌, ◌≤◌, [], length, true, IfErr, IfOk, IfSome, IsErrOf, option_copied};
+ghost use Rattle.schedule_run.specs.Versions.{MayRun, last_version_of};
+ghost use Rattle.schedule_script.specs.Script.{Answers as Reads};
+ghost use Rattle.source_grammar.specs.Source.{AreShallow, nodes};
+ghost use Rattle.term_tree.specs.Modules.{module_scoped};
+ghost use Rattle.atl_driver.specs.Compile.{Answers, module_compiled, scheduled_as, script_fault_of, script_of, staged_as};
+ghost use Rattle.atl_driver.specs.Correct.{IsAdmitted, IsRefusedModule, IsRefusedScript, IsTextUnder, IsScheduled, IsScriptOf, IsUnscripted};
+ghost use Rattle.atl_driver.specs.declared.fault.Fault.{Fault as FaultValue};
 
 use crate::compile::CompileRefusal;
-use crate::faults::{unadmitted, unlowerable};
+use crate::faults::{unadmitted, unscripted, unstaged};
+use crate::last_text::last_text;
 use admission::admit;
-use c_print::print_c;
-use c_text::laws::has_small_numbers;
-use final_rules::Final;
-use final_verdict::judge;
-use loop_lang::Prog;
-use lowering::lower;
 use owned_values::spent;
-use sqlite_items::Boxed;
+use schedule_run::last_version;
+use schedule_script::{Script, ScriptFault, read_script};
+use sqlite_items::Items;
 use std::alloc::Global;
 use term_tree::Module;
 
-/// The text of a program.
-fn printed(alloc: Global, program: &Prog) -> Result<Vec<u8>, CompileRefusal>
-    ensures { MatchResult result (λ text. text.items ≡ canonical_text program.now) (λ refusal. refusal ≡ Memory) }
+/// The text of the last version of a schedule, or its first fault.
+fn staged_text(alloc: Global, origin: Module, schedule: &Script) -> Result<Vec<u8>, CompileRefusal>
+    requires may { MayRun origin }
+    requires some { origin.outputs ≢ [] }
+    requires shallow { AreShallow origin.outputs }
+    requires outputs { length origin.outputs ≤ 2147483647 }
+    ensures answers { Answers (staged_as (last_version_of origin schedule.now.steps) schedule.now) result }
+    ensures loops { IfOk result (λ text. IsScheduled origin schedule.now text.items) }
 {
-    match print_c(alloc, program) {
-        Ok(text) => Ok(text),
-        Err(_) => Err(CompileRefusal::Memory),
-    }
-}
-
-/// The text of the loops of a module that may be lowered.
-fn text_of(alloc: Global, last: &Final) -> Result<Vec<u8>, CompileRefusal>
-    requires lines { «last».now.1 ≡ [] }
-    requires marks { «last».now.2 ≡ [] }
-    requires depths { All (λ o. node_depth o.term ≤ 200) «last».now.0.outputs }
-    requires sizes { length «last».now.0.sizes ≤ 2147483647 }
-    requires inputs { length «last».now.0.inputs ≤ 2147483647 }
-    requires outputs { length «last».now.0.outputs ≤ 2147483647 }
-    ensures { MatchResult result (λ text. AreLoops «last».now.0 text.items) (λ refusal. refusal ≡ Memory) }
-{
-    last.told();
-    match lower(alloc, last) {
-        Ok(program) => {
-            has_small_numbers(program.get());
-            let text = printed(alloc, program.get());
-            spent(program);
-            text
-        }
-        Err(_) => Err(CompileRefusal::Memory),
-    }
-}
-
-/// The text of a sound module, or the first rule of the final form that it breaks.
-fn lowered_text(alloc: Global, module: &Module) -> Result<Vec<u8>, CompileRefusal>
-    requires sound { IsSound «module».now }
-    requires some { «module».now.outputs ≢ [] }
-    requires sizes { length «module».now.sizes ≤ 2147483647 }
-    requires outputs { length «module».now.outputs ≤ 2147483647 }
-    requires nodes { All (λ o. node_count o.term ≤ 20000) «module».now.outputs }
-    requires depths { All (λ o. node_depth o.term ≤ 200) «module».now.outputs }
-    requires inputs { length «module».now.inputs ≤ 2147483647 }
-    ensures answers { Answers (lowered_as (final_fault «module».now [] []) «module».now) result }
-    ensures loops { IfOk result (λ text. AreLoops «module».now text.items) }
-{
-    match judge(alloc, module, &[], &[]) {
+    match last_version(alloc, origin, schedule) {
         Ok(last) => {
-            let text = text_of(alloc, &last);
+            let finals = schedule.finals.as_slice();
+            let text = last_text(alloc, &last, finals, schedule.parallel.as_slice());
             spent(last);
             text
         }
-        Err(fault) => Err(unlowerable(alloc, fault)),
+        Err(fault) => Err(unstaged(alloc, fault)),
     }
 }
 
-/// The text of a module that was read, or the first rule that it breaks.
-pub fn module_text(alloc: Global, module: &Module) -> Result<Vec<u8>, CompileRefusal>
-    requires scoped { module_scoped «module».now ≡ true }
-    requires some { «module».now.outputs ≢ [] }
-    requires nodes { All (λ o. node_count o.term ≤ 20000) «module».now.outputs }
-    requires depths { All (λ o. node_depth o.term ≤ 200) «module».now.outputs }
-    requires sizes { length «module».now.sizes ≤ 2147483647 }
-    requires inputs { length «module».now.inputs ≤ 2147483647 }
-    requires outputs { length «module».now.outputs ≤ 2147483647 }
-    requires example { length «module».now.example ≡ length «module».now.sizes }
-    ensures answers { Answers (module_compiled «module».now) result }
-    ensures loops { IfOk result (λ text. IsAdmitted «module».now × AreLoops «module».now text.items) }
+/// The schedule of a text; that without steps where there is none.
+fn read_schedule(alloc: Global, script: Option<&[u8]>) -> Result<Script, ScriptFault>
+    requires { IfSome (option_copied script) (λ text. length text ≤ 2147483647) }
+    ensures exact { Reads result (script_of (option_copied script.entry)) }
+    ensures reads { IfOk result (λ schedule. IsScriptOf (option_copied script.entry) schedule) }
+    ensures refused { IfErr result (λ fault. fault ≢ ScriptFault.Memory → IsUnscripted (option_copied script.entry) (script_fault_of fault)) }
 {
-    match admit(alloc, module) {
-        Ok(()) => lowered_text(alloc, module),
-        Err(fault) => Err(unadmitted(alloc, fault)),
+    match script {
+        Some(text) => read_script(alloc, text),
+        None => Ok(Script {
+            steps: Items::new(alloc),
+            finals: Items::new(alloc),
+            parallel: Items::new(alloc),
+        }),
+    }
+}
+
+/// The text of a sound module under the text of a script, or its first fault.
+fn scheduled_text(
+    alloc: Global,
+    origin: Module,
+    script: Option<&[u8]>,
+) -> Result<Vec<u8>, CompileRefusal>
+    requires may { MayRun origin }
+    requires some { origin.outputs ≢ [] }
+    requires shallow { AreShallow origin.outputs }
+    requires outputs { length origin.outputs ≤ 2147483647 }
+    requires script { IfSome (option_copied script) (λ text. length text ≤ 2147483647) }
+    ensures answers { Answers (scheduled_as (script_of (option_copied script.entry)) origin) result }
+    ensures under { IfOk result (λ text. IsTextUnder origin (option_copied script.entry) text.items) }
+    ensures refused { (fault : FaultValue) → IsErrOf result (CompileRefusal.Refused fault) → IsRefusedScript origin (option_copied script.entry) fault }
+{
+    match read_schedule(alloc, script) {
+        Ok(schedule) => {
+            let text = staged_text(alloc, origin, &schedule);
+            spent(schedule);
+            text
+        }
+        Err(fault) => {
+            spent(origin);
+            Err(unscripted(alloc, fault))
+        }
+    }
+}
+
+/// The text of a module that was read, under the text of a script, or its first fault.
+pub fn module_text(
+    alloc: Global,
+    origin: Module,
+    script: Option<&[u8]>,
+) -> Result<Vec<u8>, CompileRefusal>
+    requires scoped { module_scoped origin ≡ true }
+    requires some { origin.outputs ≢ [] }
+    requires few { nodes origin.outputs ≤ 20000 }
+    requires shallow { AreShallow origin.outputs }
+    requires sizes { length origin.sizes ≤ 2147483647 }
+    requires inputs { length origin.inputs ≤ 2147483647 }
+    requires outputs { length origin.outputs ≤ 2147483647 }
+    requires example { length origin.example ≡ length origin.sizes }
+    requires script { IfSome (option_copied script) (λ text. length text ≤ 2147483647) }
+    ensures answers { Answers (module_compiled origin (option_copied script.entry)) result }
+    ensures under { IfOk result (λ text. IsAdmitted origin × IsTextUnder origin (option_copied script.entry) text.items) }
+    ensures refused { (fault : FaultValue) → IsErrOf result (CompileRefusal.Refused fault) → IsRefusedModule origin (option_copied script.entry) fault }
+{
+    match admit(alloc, &origin) {
+        Ok(()) => scheduled_text(alloc, origin, script),
+        Err(fault) => {
+            spent(origin);
+            Err(unadmitted(alloc, fault))
+        }
     }
 }

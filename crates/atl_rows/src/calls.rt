@@ -1,4 +1,4 @@
-//! Calls of the program over one file in memory.
+//! Calls of the program over files in memory.
 
 use atl_driver::{Status, atl};
 use atl_edges::{Files, MemFiles, MemSink, Sink, SureFiles};
@@ -8,6 +8,9 @@ use std::test::Fail;
 
 /// The words that compile the file.
 pub const COMPILE: [&str; 2] = ["compile", "a.atl"];
+
+/// The words that compile it under a script.
+pub const SCHEDULE: [&str; 3] = ["compile", "a.atl", "a.sched"];
 
 // The lines that all texts begin with.
 const HEAD: &str = "#include <stdint.h>
@@ -20,6 +23,15 @@ type Held = Vec<(String, Vec<u8>)>;
 fn held(alloc: Global, content: &[u8]) -> Result<Held, AllocError> {
     let mut held = Vec::new(alloc);
     held.push((String::from_str(alloc, "a.atl")?, content.to_vec(alloc)?))?;
+    Ok(held)
+}
+
+fn held_with(alloc: Global, content: &str, script: &str) -> Result<Held, AllocError> {
+    let mut held = held(alloc, content.as_bytes())?;
+    held.push((
+        String::from_str(alloc, "a.sched")?,
+        script.as_bytes().to_vec(alloc)?,
+    ))?;
     Ok(held)
 }
 
@@ -94,5 +106,70 @@ pub fn compiles(rt: &impl Abort, alloc: Global, source: &str, lines: &str) -> Re
     let text = format!(in alloc; "{HEAD}{lines}")?;
     let status = written(rt, alloc, source, 4096, &[], (text.as_str(), ""))?;
     assert!(rt; matches!(status, Status::Done));
+    Ok(())
+}
+
+/// The status of a call over a source and a script, with sinks of ample room: what it writes is compared.
+pub fn scheduled(
+    rt: &impl Abort,
+    alloc: Global,
+    source: &str,
+    script: &str,
+    texts: (&str, &str),
+) -> Result<Status, Fail> {
+    let mut files = SureFiles::new(held_with(alloc, source, script)?);
+    let mut out = MemSink::new(alloc, 4096, Vec::new(alloc))?;
+    let mut err = MemSink::new(alloc, 64, Vec::new(alloc))?;
+    let status = call(alloc, &SCHEDULE, &mut files, &mut out, &mut err)?;
+    assert_eq!(rt; out.written(), texts.0.as_bytes());
+    assert_eq!(rt; err.written(), texts.1.as_bytes());
+    Ok(status)
+}
+
+/// A source under a script is compiled to these lines behind those that all texts begin with.
+pub fn compiles_under(
+    rt: &impl Abort,
+    alloc: Global,
+    source: &str,
+    script: &str,
+    lines: &str,
+) -> Result<(), Fail> {
+    let text = format!(in alloc; "{HEAD}{lines}")?;
+    let status = scheduled(rt, alloc, source, script, (text.as_str(), ""))?;
+    assert!(rt; matches!(status, Status::Done));
+    Ok(())
+}
+
+/// A source under a script is refused with this line.
+pub fn is_refused(
+    rt: &impl Abort,
+    alloc: Global,
+    source: &str,
+    script: &str,
+    line: &str,
+) -> Result<(), Fail> {
+    let status = scheduled(rt, alloc, source, script, ("", line))?;
+    assert!(rt; matches!(status, Status::Refused(_)));
+    Ok(())
+}
+
+/// A source under a script has the text of another source without one.
+pub fn becomes(
+    rt: &impl Abort,
+    alloc: Global,
+    before: &str,
+    script: &str,
+    after: &str,
+) -> Result<(), Fail> {
+    let mut files = SureFiles::new(held_with(alloc, before, script)?);
+    let mut out = MemSink::new(alloc, 4096, Vec::new(alloc))?;
+    let mut err = MemSink::new(alloc, 64, Vec::new(alloc))?;
+    let status = call(alloc, &SCHEDULE, &mut files, &mut out, &mut err)?;
+    assert!(rt; matches!(status, Status::Done));
+    let mut files = SureFiles::new(held(alloc, after.as_bytes())?);
+    let mut want = MemSink::new(alloc, 4096, Vec::new(alloc))?;
+    let status = call(alloc, &COMPILE, &mut files, &mut want, &mut err)?;
+    assert!(rt; matches!(status, Status::Done));
+    assert_eq!(rt; out.written(), want.written());
     Ok(())
 }

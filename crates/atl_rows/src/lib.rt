@@ -12,4 +12,8 @@ mod lowered;
 #[cfg(test)]
 mod outside;
 #[cfg(test)]
+mod rules;
+#[cfg(test)]
+mod scheduled;
+#[cfg(test)]
 mod sources;

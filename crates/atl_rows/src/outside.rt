@@ -1,6 +1,6 @@
 //! What the program answers and writes: statuses, refusals, words that are Usage, and puts that fail.
 
-use crate::calls::{COMPILE, told, written};
+use crate::calls::{COMPILE, SCHEDULE, told, written};
 use atl_driver::Status;
 use atl_edges::FILE_LIMIT;
 use std::test::Fail;
@@ -9,7 +9,13 @@ use std::test::Fail;
 fn a_file_that_is_not_read_has_its_line(rt: HostRuntime) -> Result<(), Fail> {
     let alloc = rt.alloc();
     let texts = ("", "ReadFault\n");
-    let table: [(&[&str], &[u64]); 2] = [(&COMPILE, &[1]), (&["compile", "b"], &[])];
+    // Both files are read before anything is decided: a script that is not there comes before the fault of the source.
+    let table: [(&[&str], &[u64]); 4] = [
+        (&COMPILE, &[1]),
+        (&["compile", "b"], &[]),
+        (&SCHEDULE, &[]),
+        (&["compile", "a.atl", "a.atl"], &[2]),
+    ];
     for (words, failing) in table {
         let status = told(&rt, alloc, words, b"atl 1;", failing, texts)?;
         assert!(rt; matches!(status, Status::ReadFault));
@@ -24,14 +30,14 @@ fn a_file_that_is_not_read_has_its_line(rt: HostRuntime) -> Result<(), Fail> {
 #[test]
 fn other_words_are_usage(rt: HostRuntime) -> Result<(), Fail> {
     let alloc = rt.alloc();
-    let texts = ("", "usage: atl compile SRC\n");
+    let texts = ("", "usage: atl compile SRC [SCHED]\n");
     let table: [&[&str]; 6] = [
         &[],
         &["frob"],
         &["compile"],
-        &["compile", "a.atl", "a.atl"],
+        &["compile", "a.atl", "a.atl", "a.atl"],
         &["compile", ""],
-        &["compile", "-a"],
+        &["compile", "a.atl", "-a"],
     ];
     for words in table {
         let status = told(&rt, alloc, words, b"atl 1;", &[], texts)?;

@@ -1,11 +1,14 @@
 use Rattle.std.proofs.Common.{sym}
 use Rattle.atl_driver.specs.Form.{form_of, texts}
 use Rattle.atl_driver.proofs.DecideLaws.{text_came, fault_came}
-use Rattle.atl_driver.proofs.FirstContent.{first_within}
+use Rattle.atl_driver.proofs.Contents.{first_within, second_within}
 use Rattle.atl_driver.proofs.decide.decide.Goals as goal
 
-pub compile_all-requires : goal.compile_all-requires
-compile_all-requires g c = rw c.deref.ensures.value (first_within _ _ _ c.in-Ok.ensures.contents)
+pub compile_all-requires-clause-first : goal.compile_all-requires-clause-first
+compile_all-requires-clause-first g c = rw c.deref.ensures.value (first_within _ _ _ c.in-Ok.ensures.contents)
+
+pub compile_all-requires-clause-second : goal.compile_all-requires-clause-second
+compile_all-requires-clause-second g c = rw c.deref.ensures.value (second_within _ _ _ c.in-Ok.ensures.contents)
 
 pub returns-in-Ok-compile_all-clause-text : goal.returns-in-Ok-compile_all-clause-text
 returns-in-Ok-compile_all-clause-text g c =
