@@ -1,10 +1,11 @@
 -- What the call of a rule takes of what the rule makes.
-use Rattle.std.proofs.Common.{◌≡◌, zero, suc, List, [], ◌∷◌, sym, subst, arith, Bool, true, false, ℕ, Option, Some, None, if◌then◌else◌}
+use Rattle.std.proofs.Common.{◌≡◌, zero, suc, List, [], ◌∷◌, sym, subst, arith, Bool, true, false, ℕ, Option, Some, None, if◌then◌else◌, length, refl, ◌&&◌}
+use Rattle.affine_index.specs.Limited.{items_scoped}
 use Rattle.affine_index.specs.Normal.{is_normal, is_ordered}
 use Rattle.affine_index.specs.declared.form.Items.{Items}
 use Rattle.affine_index.proofs.ArithmeticLaws.{normal-ordered}
 use Rattle.term_tree.specs.Limits.{every_form}
-use Rattle.term_tree.specs.Syntax.{add, flatten, gen, index, sub, sum}
+use Rattle.term_tree.specs.Syntax.{add, flatten, gen, index, sub, sum, mul}
 use Rattle.term_tree.specs.declared.term.Term.{Term}
 use Rattle.term_tree.proofs.FormLaws.{every_form-weaker}
 use Rattle.path_focus.specs.Focus.{IsProper}
@@ -16,15 +17,19 @@ use Rattle.path_focus.specs.declared.outcome.Outcome.TheVariants.{NoPattern, Wro
 use Rattle.path_focus.specs.declared.rule.Arg.{Arg}
 use Rattle.path_focus.specs.declared.rule.Arg.TheVariants.{Ix}
 use Rattle.path_focus.proofs.FocusMeaning.{facts_listed}
-use Rattle.rules_loop.specs.Patterns.{on_add, on_either, on_flatten, on_gen, on_index, on_sum, provided}
+use Rattle.rules_loop.specs.Patterns.{on_add, on_either, on_flatten, on_gen, on_index, on_sum, provided, on_mul}
 use Rattle.rules_loop.specs.Rules.{rule_of}
 use Rattle.rules_loop.specs.declared.rules.LoopRule.{LoopRule}
-use Rattle.rules_loop.specs.declared.rules.LoopRule.TheVariants.{Beta, Eta, SwapGen, SwapSum, SumGen, GenSum, SumIndex, SumAdd, AddSum, AddIndex}
+use Rattle.rules_loop.specs.declared.rules.LoopRule.TheVariants.{Beta, Eta, SwapGen, CutGen, SwapSum, CutSum, SumGen, GenSum}
+use Rattle.rules_loop.specs.declared.rules.LoopRule.TheVariants.{SumIndex, SumAdd, AddSum, MulOutOfSum, AddIndex}
 use Rattle.rules_loop.specs.declared.rules.LoopRule.TheVariants.{SplitGen, SplitSum, SplitGenExact, FuseGen}
 use Rattle.rules_loop.specs.Tilings.{divides, tile_of, with_number, with_tile}
+use Rattle.rules_loop.specs.Cuts.{further, with_cut, within_extent}
 use Rattle.rules_loop.proofs.BetaLaw.{beta_keeps}
+use Rattle.rules_loop.proofs.CutLaws.{cut_gen_keeps, cut_sum_keeps}
 use Rattle.rules_loop.proofs.EtaLaws.{eta_keeps}
 use Rattle.rules_loop.proofs.IndexLaws.{add_index_keeps, sum_index_keeps}
+use Rattle.rules_loop.proofs.ProductLaws.{mul_out_of_sum_keeps}
 use Rattle.rules_loop.proofs.SumLaws.{add_sum_keeps, sum_add_keeps}
 use Rattle.rules_loop.proofs.SwapLaws.{gen_sum_keeps, sum_gen_keeps, swap_gen_keeps, swap_sum_keeps}
 use Rattle.rules_loop.proofs.TilingLaws.{fuse_gen_keeps, split_gen_exact_keeps, split_gen_keeps, split_sum_keeps}
@@ -50,6 +55,10 @@ at_sum _ f h = tt
 at_add : (t : Term) (f : Term → Term → Meant) → ((a b : Term) → MeantListed (f a b)) → MeantListed (on_add t f)
 at_add (add a b) f h = h a b
 at_add _ f h = tt
+
+at_mul : (t : Term) (f : Term → Term → Meant) → ((a b : Term) → MeantListed (f a b)) → MeantListed (on_mul t f)
+at_mul (mul a b) f h = h a b
+at_mul _ f h = tt
 
 at_either : (t : Term) (f g : Term → Term → Meant) → ((a b : Term) → MeantListed (f a b)) → ((a b : Term) → MeantListed (g a b)) → MeantListed (on_either t f g)
 at_either (add a b) f g h k = h a b
@@ -80,6 +89,19 @@ if_fit : (b : Bool) (m : Meant) → MeantListed m → MeantListed (if b then m e
 if_fit true m h = h
 if_fit false m h = tt
 
+with_one : (f : Focus) (as' : List Arg) (g : Items → Meant) → ((x : Items) → MeantListed (g x)) → MeantListed (with_cut f as' g)
+with_one f (Ix x ∷ []) g h = by (items_scoped (length f.facts.sizes) 0 x && (is_normal x && is_normal (further x)))
+  where
+    by : (c : Bool) → MeantListed (if c then g x else Unfit)
+    by true = h x
+    by false = tt
+with_one f _ g h = tt
+
+cut_conditions : (f : Focus) → IsProper f → (n x : Items) → AllListed (within_extent f.facts n x)
+cut_conditions f p n x zero d h = (p.few.sizes, omega arith, refl)
+cut_conditions f p n x (suc zero) d h = (p.few.sizes, omega arith, refl)
+cut_conditions f p n x (suc (suc k)) d h = absurd (omega (arith, h))
+
 no_conditions : AllListed []
 no_conditions k d h = absurd (omega (arith, h))
 
@@ -92,12 +114,15 @@ listed f p Beta as' = at_index f.term _ (λ e x. at_gen e _ (λ n b. with_none a
     both n x (suc (suc k)) d h = absurd (omega (arith, h))
 listed f p Eta as' = at_gen f.term _ (λ n e. at_index e _ (λ a x. if_provided _ _ (with_none as' _ no_conditions)))
 listed f p SwapGen as' = at_gen f.term _ (λ n e. at_gen e _ (λ m b. with_none as' _ no_conditions))
+listed f p CutGen as' = at_gen f.term _ (λ n b. with_one f as' _ (λ x. cut_conditions f p n x))
 listed f p SwapSum as' = at_sum f.term _ (λ n e. at_sum e _ (λ m b. with_none as' _ no_conditions))
+listed f p CutSum as' = at_sum f.term _ (λ n b. with_one f as' _ (λ x. cut_conditions f p n x))
 listed f p SumGen as' = at_sum f.term _ (λ n e. at_gen e _ (λ m b. with_none as' _ no_conditions))
 listed f p GenSum as' = at_gen f.term _ (λ n e. at_sum e _ (λ m b. with_none as' _ no_conditions))
 listed f p SumIndex as' = at_index f.term _ (λ e x. at_sum e _ (λ n b. with_none as' _ no_conditions))
 listed f p SumAdd as' = at_sum f.term _ (λ n e. at_add e _ (λ a b. with_none as' _ no_conditions))
 listed f p AddSum as' = at_add f.term _ (λ d e. at_sum d _ (λ n a. at_sum e _ (λ m b. if_provided _ _ (with_none as' _ no_conditions))))
+listed f p MulOutOfSum as' = at_sum f.term _ (λ n e. at_mul e _ (λ a b. if_provided _ _ (with_none as' _ no_conditions)))
 listed f p AddIndex as' = at_index f.term _ (λ e x. at_either e _ _ (λ a b. with_none as' _ no_conditions) (λ a b. with_none as' _ no_conditions))
 listed f p SplitGen as' = at_gen f.term _ (λ n b. with_tiles as' _ (λ k. no_conditions))
 listed f p SplitSum as' = at_sum f.term _ (λ n b. with_tiles as' _ (λ k. no_conditions))
@@ -119,12 +144,15 @@ kept : (f : Focus) (rule : LoopRule) (as' : List Arg) → IsProper f → every_f
 kept f Beta as' p o = beta_keeps f p o as'
 kept f Eta as' p o = eta_keeps f p o as'
 kept f SwapGen as' p o = swap_gen_keeps f p o as'
+kept f CutGen as' p o = cut_gen_keeps f p o as'
 kept f SwapSum as' p o = swap_sum_keeps f p o as'
+kept f CutSum as' p o = cut_sum_keeps f p o as'
 kept f SumGen as' p o = sum_gen_keeps f p o as'
 kept f GenSum as' p o = gen_sum_keeps f p o as'
 kept f SumIndex as' p o = sum_index_keeps f p o as'
 kept f SumAdd as' p o = sum_add_keeps f p o as'
 kept f AddSum as' p o = add_sum_keeps f p o as'
+kept f MulOutOfSum as' p o = mul_out_of_sum_keeps f p o as'
 kept f AddIndex as' p o = add_index_keeps f p o as'
 kept f SplitGen as' p o = split_gen_keeps f p o as'
 kept f SplitSum as' p o = split_sum_keeps f p o as'

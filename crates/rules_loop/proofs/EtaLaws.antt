@@ -109,8 +109,8 @@ module _ (f : Focus) (p : IsProper f) where
       goals = λ s ds w. with_index-goals (literal_form (pos 0)) a s ds w.goals.1;
       meaning = λ s r t k h w. same_rows s r t h w;
       shape = λ h.
-          let e : shape_of (gen n (index a (var_form 0))) (given f.shapes) ≡ limited (n ∷ ms) = λ i. with_child 0 (with_child 0 (shaped i) row_shape) (λ ns. limited
-          (n ∷ ns)) in
+          let e : shape_of (gen n (index a (var_form 0))) (given f.shapes) ≡ limited (n ∷ ms) =
+          λ i. with_child 0 (with_child 0 (shaped i) row_shape) (λ ns. limited (n ∷ ns)) in
           same_shape_there (shape_of (gen n (index a (var_form 0))) (given f.shapes)) (shape_of (lowered a) (given f.shapes)) h
           (with_index-shape (literal_form (pos 0)) a (given f.shapes) ∙ shaped ∙ sym (e ∙ within (n ∷ ms) (subst IsOk e h)));
     }
@@ -135,7 +135,8 @@ module _ (f : Focus) (p : IsProper f) (o : AllOrdered f.term) where
   module _ (n : Items) (a : Term) (x : Items) (q : f.term ≡ gen n (index a x)) where
     inner_ordered : AllOrdered a
     inner_ordered =
-        let k = and_parts (is_ordered n) (every_form is_ordered (index a x)) (sym (fold-gen Bool (form_step is_ordered) n (index a x)) ∙ subst AllOrdered q o) in
+        let k = and_parts (is_ordered n) (every_form is_ordered (index a x))
+        (sym (fold-gen Bool (form_step is_ordered) n (index a x)) ∙ subst AllOrdered q o) in
         (and_parts (every_form is_ordered a) (is_ordered x) (sym (fold-index Bool (form_step is_ordered) a x) ∙ k.1)).0
 
     eta_if : (as' : List Arg) (c : Bool) → (same_form x (var_form 0) && (not (uses_index a 0) && is_first n (shape_of a (given f.shapes)))) ≡ c

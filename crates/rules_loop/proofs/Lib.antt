@@ -1,12 +1,17 @@
 pub mod ApplyLaws
+pub mod BesideLaws
 pub mod BetaLaw
 pub mod Coefficients
+pub mod CancelLaws
+pub mod CutArguments
+pub mod CutLaws
 pub mod DraftLaws
 pub mod EtaLaws
 pub mod FormedLaws
 pub mod IndexLaws
 pub mod Parts
 pub mod PatternLaws
+pub mod ProductLaws
 pub mod ReachLaws
 pub mod Replacing
 pub mod RowLaws
@@ -17,3 +22,4 @@ pub mod TileForms
 pub mod TileRows
 pub mod TileShapes
 pub mod TilingLaws
+pub mod WiderLaws

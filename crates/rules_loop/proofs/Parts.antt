@@ -2,11 +2,11 @@
 use Rattle.std.proofs.Common.{◌≡◌, refl, sym, ◌∙◌}
 use Rattle.affine_index.specs.declared.form.Items.{Items}
 use Rattle.path_focus.specs.Outcome.{Meant, Unlike}
-use Rattle.rules_loop.specs.Patterns.{on_add, on_either, on_flatten, on_gen, on_index, on_sum}
-use Rattle.term_tree.specs.Syntax.{add, flatten, gen, index, sub, sum}
+use Rattle.rules_loop.specs.Patterns.{on_add, on_either, on_flatten, on_gen, on_index, on_sum, on_mul}
+use Rattle.term_tree.specs.Syntax.{add, flatten, gen, index, sub, sum, mul}
 use Rattle.term_tree.specs.declared.term.Term.{Term}
-use Rattle.term_tree.specs.declared.term.Term.TheVariants.{Add, Flatten, Gen, Index, Sub, Sum}
-use Rattle.term_tree.proofs.Forms.{Add-is, Flatten-is, Gen-is, Index-is, Sub-is, Sum-is}
+use Rattle.term_tree.specs.declared.term.Term.TheVariants.{Add, Flatten, Gen, Index, Sub, Sum, Mul}
+use Rattle.term_tree.proofs.Forms.{Add-is, Flatten-is, Gen-is, Index-is, Sub-is, Sum-is, Mul-is}
 
 pub not_index : (t : Term) → ((e : Term) (x : Items) → t ≡ Index e x → ⊥) → (f : Term → Items → Meant) → on_index t f ≡ Unlike
 not_index (index e x) h f = absurd (h e x (sym (Index-is e x)))
@@ -27,6 +27,10 @@ not_flatten _ h f = refl
 pub not_add : (t : Term) → ((a b : Term) → t ≡ Add a b → ⊥) → (f : Term → Term → Meant) → on_add t f ≡ Unlike
 not_add (add a b) h f = absurd (h a b (sym (Add-is a b)))
 not_add _ h f = refl
+
+pub not_mul : (t : Term) → ((a b : Term) → t ≡ Mul a b → ⊥) → (f : Term → Term → Meant) → on_mul t f ≡ Unlike
+not_mul (mul a b) h f = absurd (h a b (sym (Mul-is a b)))
+not_mul _ h f = refl
 
 pub not_either : (t : Term) → ((a b : Term) → t ≡ Add a b → ⊥) → ((a b : Term) → t ≡ Sub a b → ⊥) → (f g : Term → Term → Meant) → on_either t f g ≡ Unlike
 not_either (add a b) h k f g = absurd (h a b (sym (Add-is a b)))
@@ -50,6 +54,9 @@ is_flatten t e h = h ∙ Flatten-is e
 
 pub ruleset flatten_parts = (not_flatten, is_flatten)
 
+pub is_mul : (t a b : Term) → t ≡ Mul a b → t ≡ mul a b
+is_mul t a b h = h ∙ Mul-is a b
+
 pub ruleset index_parts = (not_index, is_index)
 
 pub ruleset gen_parts = (not_gen, is_gen)
@@ -57,3 +64,5 @@ pub ruleset gen_parts = (not_gen, is_gen)
 pub ruleset sum_parts = (not_sum, is_sum)
 
 pub ruleset add_parts = (not_add, is_add)
+
+pub ruleset mul_parts = (not_mul, is_mul)

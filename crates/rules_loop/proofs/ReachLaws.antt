@@ -17,11 +17,13 @@ use Rattle.fact_list.specs.declared.facts.PathFact.TheVariants.{Bound, Holds}
 use Rattle.shape_rules.specs.Scopes.{IsScoped, given}
 use Rattle.term_tree.specs.Counts.{node_count, node_depth}
 use Rattle.term_tree.specs.Scope.{term_scoped}
-use Rattle.term_tree.specs.Syntax.{gen, index}
+use Rattle.term_tree.specs.Syntax.{gen, index, mul, sum}
 use Rattle.term_tree.specs.declared.term.Term.{Term}
 use Rattle.path_focus.specs.Focus.{IsProper}
 use Rattle.path_focus.specs.declared.place.Focus.{Focus}
 use Rattle.path_focus.proofs.CountLaws.{depth_nodes, one_put}
+use Rattle.rules_loop.specs.Cuts.{further}
+use Rattle.rules_loop.proofs.CutLaws.{given_scope}
 use Rattle.rules_loop.proofs.EtaLaws.{literal-scoped}
 use Rattle.rules_loop.proofs.SwapLaws.{var-scoped}
 use Rattle.rules_loop.proofs.TileForms.{place-scoped, quotient-scoped, remainder-scoped}
@@ -145,3 +147,26 @@ module _ (f : Focus) (p : IsProper f) where
       forms zero l = remainder-scoped sizes (vars + 1) k (var_form 0) last
       forms (suc zero) l = quotient-scoped sizes (vars + 1) k (var_form 0) last
       forms (suc (suc j)) l = absurd (omega (arith, l))
+
+  -- i + x for the variable of a gen or sum, under another in its place
+  pub cut_reach : (e b : Term) (n x : Items) → f.term ≡ e → node_count e ≡ node_count b + 1
+      → term_scoped sizes e vars tensors ≡ (items_scoped sizes 0 n && term_scoped sizes b (vars + 1) tensors) → items_scoped sizes 0 x ≡ true
+      → (node_depth b ≤ 2147483647) × IsWithinReach (put_index_reach (further x ∷ []) 1) b
+  cut_reach e b n x q count scope h =
+      let s = small_of e q in
+      let c = and_parts (items_scoped sizes 0 n) (term_scoped sizes b (vars + 1) tensors) (sym scope ∙ scope_of e q) in
+      let d = depth_nodes b in (
+        omega (arith, d, s, count),
+        put_index_within (further x ∷ []) 1 (1 + vars) sizes (vars + 1) tensors b (given_scope f n x b h) (omega (arith, d, s, count, vars_few))
+            (omega (arith, d, s, count, vars_few)) c.1,
+      )
+
+  -- 0 for the variable of a sum, in a factor
+  pub factor_reach : (n : Items) (a b : Term) → f.term ≡ sum n (mul a b)
+      → (node_depth a ≤ 2147483647) × IsWithinReach (put_index_reach (literal_form (pos 0) ∷ []) 0) a
+  factor_reach n a b q =
+      let s = small_of (sum n (mul a b)) q in
+      let c = and_parts (items_scoped sizes 0 n) (term_scoped sizes a (vars + 1) tensors && term_scoped sizes b (vars + 1) tensors)
+      (scope_of (sum n (mul a b)) q) in
+      let k = and_parts (term_scoped sizes a (vars + 1) tensors) (term_scoped sizes b (vars + 1) tensors) c.1 in
+      one_put sizes vars tensors (literal_form (pos 0)) a vars_few (omega (arith, s)) (literal-scoped sizes vars 0) k.0

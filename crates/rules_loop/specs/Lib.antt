@@ -1,4 +1,5 @@
 pub mod Formed
+pub mod Cuts
 pub mod Patterns
 pub mod Table
 pub mod Tilings

@@ -3,7 +3,7 @@ use Rattle.std.specs.Prelude.{Bool, false, if◌then◌else◌, ◌∷◌, Ok}
 use Rattle.affine_index.specs.declared.form.Items.{Items}
 use Rattle.path_focus.specs.Outcome.{Meant, Unlike}
 use Rattle.term_tree.specs.Shape.{Shaped, same_form}
-use Rattle.term_tree.specs.Syntax.{index, flatten, gen, sum, add, sub}
+use Rattle.term_tree.specs.Syntax.{index, flatten, gen, sum, add, sub, mul}
 use Rattle.term_tree.specs.declared.term.Term.{Term}
 
 abbrev pub on_index : Term → (Term → Items → Meant) → Meant
@@ -25,6 +25,10 @@ on_flatten _ f = Unlike
 abbrev pub on_add : Term → (Term → Term → Meant) → Meant
 on_add (add a b) f = f a b
 on_add _ f = Unlike
+
+abbrev pub on_mul : Term → (Term → Term → Meant) → Meant
+on_mul (mul a b) f = f a b
+on_mul _ f = Unlike
 
 -- a sum of two terms, or their difference
 abbrev pub on_either : Term → (Term → Term → Meant) → (Term → Term → Meant) → Meant

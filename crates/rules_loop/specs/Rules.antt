@@ -9,7 +9,8 @@ use Rattle.path_focus.specs.declared.rule.RuleFault.TheVariants.{Memory}
 use Rattle.rules_loop.specs.Table as table
 use Rattle.rules_loop.specs.Tilings as tilings
 use Rattle.rules_loop.specs.declared.rules.LoopRule.{LoopRule}
-use Rattle.rules_loop.specs.declared.rules.LoopRule.TheVariants.{Beta, Eta, SwapGen, SwapSum, SumGen, GenSum, SumIndex, SumAdd, AddSum, AddIndex}
+use Rattle.rules_loop.specs.declared.rules.LoopRule.TheVariants.{Beta, Eta, SwapGen, CutGen, SwapSum, CutSum, SumGen, GenSum}
+use Rattle.rules_loop.specs.declared.rules.LoopRule.TheVariants.{SumIndex, SumAdd, AddSum, MulOutOfSum, AddIndex}
 use Rattle.rules_loop.specs.declared.rules.LoopRule.TheVariants.{SplitGen, SplitSum, SplitGenExact, FuseGen}
 
 -- what a rule makes of a focus and arguments
@@ -17,12 +18,15 @@ abbrev pub rule_of : Focus → LoopRule → List Arg → Meant
 rule_of f Beta = table.beta f
 rule_of f Eta = table.eta f
 rule_of f SwapGen = table.swap_gen f
+rule_of f CutGen = table.cut_gen f
 rule_of f SwapSum = table.swap_sum f
+rule_of f CutSum = table.cut_sum f
 rule_of f SumGen = table.sum_gen f
 rule_of f GenSum = table.gen_sum f
 rule_of f SumIndex = table.sum_index f
 rule_of f SumAdd = table.sum_add f
 rule_of f AddSum = table.add_sum f
+rule_of f MulOutOfSum = table.mul_out_of_sum f
 rule_of f AddIndex = table.add_index f
 rule_of f SplitGen = tilings.split_gen f
 rule_of f SplitSum = tilings.split_sum f

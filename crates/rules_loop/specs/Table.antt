@@ -2,6 +2,7 @@
 use Rattle.std.specs.Prelude.{List, [], ◌∷◌, not, ◌&&◌}
 use Rattle.affine_index.specs.Form.{var_form}
 use Rattle.affine_index.specs.Put.{shifted}
+use Rattle.affine_index.specs.Sum.{difference_of}
 use Rattle.binders.specs.Maps.{mapped}
 use Rattle.binders.specs.PlainMaps.{put_index_map}
 use Rattle.binders.specs.Uses.{uses_index}
@@ -9,10 +10,11 @@ use Rattle.path_focus.specs.Making.{lowered, one_of_rows, with_index}
 use Rattle.path_focus.specs.Outcome.{Makes, Meant, without_arguments}
 use Rattle.path_focus.specs.declared.place.Focus.{Focus}
 use Rattle.path_focus.specs.declared.rule.Arg.{Arg}
-use Rattle.rules_loop.specs.Patterns.{is_first, on_add, on_either, on_gen, on_index, on_sum, provided}
+use Rattle.rules_loop.specs.Cuts.{moved_by, with_cut, within_extent}
+use Rattle.rules_loop.specs.Patterns.{is_first, on_add, on_either, on_gen, on_index, on_mul, on_sum, provided}
 use Rattle.shape_rules.specs.Scopes.{given}
 use Rattle.term_tree.specs.Shape.{same_form, shape_of}
-use Rattle.term_tree.specs.Syntax.{add, gen, index, sub, sum, transpose}
+use Rattle.term_tree.specs.Syntax.{add, concat, gen, index, mul, sub, sum, transpose}
 use Rattle.term_tree.specs.declared.term.Term.{Term}
 
 -- a body with its two innermost variables swapped
@@ -32,9 +34,19 @@ eta f as' = on_gen f.term (λ n e. on_index e (λ a x.
 abbrev pub swap_gen : Focus → List Arg → Meant
 swap_gen f as' = on_gen f.term (λ n e. on_gen e (λ m b. without_arguments as' (Makes (transpose (gen m (gen n (swapped b)))) [])))
 
+-- gen i < n. b becomes concat(gen i < x. b, gen i < n - x. b{i + x}), where 0 <= x <= n
+abbrev pub cut_gen : Focus → List Arg → Meant
+cut_gen f as' = on_gen f.term (λ n b. with_cut f as' (λ x.
+    Makes (concat (gen x b) (gen (difference_of n x) (moved_by x b))) (within_extent f.facts n x)))
+
 -- sum i < n. sum j < m. b becomes sum j < m. sum i < n. b
 abbrev pub swap_sum : Focus → List Arg → Meant
 swap_sum f as' = on_sum f.term (λ n e. on_sum e (λ m b. without_arguments as' (Makes (sum m (sum n (swapped b))) [])))
+
+-- sum i < n. b becomes (sum i < x. b) + (sum i < n - x. b{i + x}), where 0 <= x <= n
+abbrev pub cut_sum : Focus → List Arg → Meant
+cut_sum f as' = on_sum f.term (λ n b. with_cut f as' (λ x.
+    Makes (add (sum x b) (sum (difference_of n x) (moved_by x b))) (within_extent f.facts n x)))
 
 -- sum i < n. gen j < m. b becomes gen j < m. sum i < n. b
 abbrev pub sum_gen : Focus → List Arg → Meant
@@ -55,6 +67,11 @@ sum_add f as' = on_sum f.term (λ n e. on_add e (λ a b. without_arguments as' (
 -- (sum i < n. a) + (sum i < n. b) becomes sum i < n. a + b
 abbrev pub add_sum : Focus → List Arg → Meant
 add_sum f as' = on_add f.term (λ d e. on_sum d (λ n a. on_sum e (λ m b. provided (same_form n m) (without_arguments as' (Makes (sum n (add a b)) [])))))
+
+-- sum i < n. a * b becomes a * (sum i < n. b), where a is free of i
+abbrev pub mul_out_of_sum : Focus → List Arg → Meant
+mul_out_of_sum f as' = on_sum f.term (λ n e. on_mul e (λ a b.
+    provided (not (uses_index a 0)) (without_arguments as' (Makes (mul (lowered a) (sum n b)) []))))
 
 -- (a + b)[x] becomes a[x] + b[x], and so with a difference
 abbrev pub add_index : Focus → List Arg → Meant

@@ -75,6 +75,20 @@ pub fn sub(alloc: Global, a: Boxed<Term>, b: Boxed<Term>) -> Result<Boxed<Term>,
 }
 
 #[tactic(auto, using(term_tree::proofs::Forms::term_forms))]
+pub fn mul(alloc: Global, a: Boxed<Term>, b: Boxed<Term>) -> Result<Boxed<Term>, CertRefusal>
+    ensures { IfOk result (λ e. e ≡ tree.mul a b) }
+{
+    boxed(alloc, Term::Mul(a, b))
+}
+
+#[tactic(auto, using(term_tree::proofs::Forms::term_forms))]
+pub fn concat(alloc: Global, a: Boxed<Term>, b: Boxed<Term>) -> Result<Boxed<Term>, CertRefusal>
+    ensures { IfOk result (λ e. e ≡ tree.concat a b) }
+{
+    boxed(alloc, Term::Concat(a, b))
+}
+
+#[tactic(auto, using(term_tree::proofs::Forms::term_forms))]
 pub fn transpose(alloc: Global, body: Boxed<Term>) -> Result<Boxed<Term>, CertRefusal>
     ensures { IfOk result (λ e. e ≡ tree.transpose body) }
 {
@@ -95,6 +109,15 @@ pub fn row(alloc: Global, array: &Term, x: &Aff) -> Result<Boxed<Term>, CertRefu
     let array = copied(alloc, array)?;
     let x = copied_form(alloc, x)?;
     index(alloc, array, x)
+}
+
+/// The gen of a copy of a term.
+pub fn generating(alloc: Global, n: &Aff, body: &Term) -> Result<Boxed<Term>, CertRefusal>
+    ensures { IfOk result (λ e. e ≡ tree.gen n.now body.now) }
+{
+    let body = copied(alloc, body)?;
+    let n = copied_form(alloc, n)?;
+    generated(alloc, n, body)
 }
 
 /// The sum of a copy of a term.

@@ -19,9 +19,19 @@ pub fn swap_gen_keeps()
     ensures { RuleKeeps table.swap_gen }
 {}
 
+/// A gen in two parts is the rows of both.
+pub fn cut_gen_keeps()
+    ensures { RuleKeeps table.cut_gen }
+{}
+
 /// Two sums may be taken in either order.
 pub fn swap_sum_keeps()
     ensures { RuleKeeps table.swap_sum }
+{}
+
+/// A sum in two parts is the sum of both.
+pub fn cut_sum_keeps()
+    ensures { RuleKeeps table.cut_sum }
 {}
 
 /// A sum of gens is the gen of the sums.
@@ -47,6 +57,11 @@ pub fn sum_add_keeps()
 /// Two sums are one sum.
 pub fn add_sum_keeps()
     ensures { RuleKeeps table.add_sum }
+{}
+
+/// A factor that is the same at each turn may stand outside.
+pub fn mul_out_of_sum_keeps()
+    ensures { RuleKeeps table.mul_out_of_sum }
 {}
 
 /// A row of a sum or a difference is that of the rows.

@@ -59,3 +59,13 @@ pub fn as_flatten(term: &Term) -> Option<&Term>
         _ => None,
     }
 }
+
+#[tactic(auto, using(crate::proofs::Parts::mul_parts))]
+pub fn as_mul(term: &Term) -> Option<(&Term, &Term)>
+    ensures { MatchOption result ((f : spec.Term → spec.Term → Meant) → on.on_mul term.now f ≡ Unlike) (λ parts. term.now ≡ tree.mul parts.0.now parts.1.now) }
+{
+    match term {
+        Term::Mul(a, b) => Some((a.get(), b.get())),
+        _ => None,
+    }
+}

@@ -5,7 +5,9 @@ ghost use Rattle.path_focus.specs.Focus.{IsProper, KeepsMeaning, KeepsShape};
 ghost use Rattle.path_focus.specs.Outcome.{Answers, IsOutcome, answer, conditions_of};
 ghost use Rattle.rules_loop.specs.Rules.{IsConditions, rule_of};
 
+use crate::cuts::{cut_gen, cut_sum};
 use crate::fusing::{fuse_gen, split_gen_exact};
+use crate::products::mul_out_of_sum;
 use crate::rows::{beta, eta};
 use crate::sums::{add_index, add_sum, sum_add, sum_index};
 use crate::swaps::{gen_sum, sum_gen, swap_gen, swap_sum};
@@ -23,12 +25,15 @@ pub enum LoopRule {
     Beta,
     Eta,
     SwapGen,
+    CutGen,
     SwapSum,
+    CutSum,
     SumGen,
     GenSum,
     SumIndex,
     SumAdd,
     AddSum,
+    MulOutOfSum,
     AddIndex,
     SplitGen,
     SplitSum,
@@ -49,12 +54,15 @@ fn outcome(
         LoopRule::Beta => beta(alloc, focus, args),
         LoopRule::Eta => eta(alloc, focus, args),
         LoopRule::SwapGen => swap_gen(alloc, focus, args),
+        LoopRule::CutGen => cut_gen(alloc, focus, args),
         LoopRule::SwapSum => swap_sum(alloc, focus, args),
+        LoopRule::CutSum => cut_sum(alloc, focus, args),
         LoopRule::SumGen => sum_gen(alloc, focus, args),
         LoopRule::GenSum => gen_sum(alloc, focus, args),
         LoopRule::SumIndex => sum_index(alloc, focus, args),
         LoopRule::SumAdd => sum_add(alloc, focus, args),
         LoopRule::AddSum => add_sum(alloc, focus, args),
+        LoopRule::MulOutOfSum => mul_out_of_sum(alloc, focus, args),
         LoopRule::AddIndex => add_index(alloc, focus, args),
         LoopRule::SplitGen => split_gen(alloc, focus, args),
         LoopRule::SplitSum => split_sum(alloc, focus, args),

@@ -1,0 +1,27 @@
+use Rattle.std.proofs.Common.{refl, sym, subst, ◌∙◌}
+use Rattle.path_focus.specs.Outcome.{IsDraft}
+use Rattle.path_focus.specs.declared.outcome.Draft.{Draft}
+use Rattle.term_tree.specs.Syntax.{concat, gen}
+use Rattle.term_tree.specs.declared.term.Term.{Term}
+use Rattle.rules_loop.proofs.BesideLaws.{concat_large, concat_long, concat_many}
+use Rattle.rules_loop.proofs.beside.beside_gen.Goals as goal
+
+pub returns-in_ok-term-in-Whole : goal.returns-in_ok-term-in-Whole
+returns-in_ok-term-in-Whole c = λ raw h.
+    let e = (subst (λ (d : Draft). IsDraft raw d) c.in-Whole.is h).0 in
+    subst (λ (t : Term). IsDraft t c.whole.result) (c.in_ok-term-in-Whole.ensures {u = tt}
+    ∙ (λ i. concat (c.in_ok-first-in-Whole.ensures {u = tt} i) (e i))) c.whole.ensures
+
+pub returns-in-TooLarge : goal.returns-in-TooLarge
+returns-in-TooLarge c = λ raw h.
+    concat_large c.args.x.now c.args.body.now c.told.ensures c.told-2.ensures raw (subst (λ (d : Draft). IsDraft raw d) c.in-TooLarge.is h)
+
+pub returns-in-TooLong : goal.returns-in-TooLong
+returns-in-TooLong c = λ raw h.
+    concat_long c.args.x.now c.args.body.now c.told.ensures c.told-2.ensures raw (subst (λ (d : Draft). IsDraft raw d) c.in-TooLong.is h)
+
+pub returns-in-TooMany : goal.returns-in-TooMany
+returns-in-TooMany c = λ raw h.
+    subst (λ (d : Draft). IsDraft (concat (gen c.args.x.now c.args.body.now) raw) d) (sym c.both_many.ensures)
+    (concat_many c.args.x.now c.args.body.now c.told.ensures c.told-2.ensures raw c.in-TooMany.nodes _ refl
+    (subst (λ (d : Draft). IsDraft raw d) c.in-TooMany.is h))

@@ -1,0 +1,24 @@
+use Rattle.std.proofs.Common.{rules, ◌≡◌, subst, IfOk, true, false}
+use Rattle.affine_index.specs.Normal.{is_short}
+use Rattle.affine_index.specs.Normal.{coefficients_fit as form_fits}
+use Rattle.affine_index.specs.Sum.{difference_of}
+use Rattle.affine_index.specs.declared.form.Items.{Items}
+use Rattle.path_focus.specs.Outcome.{IsDraft}
+use Rattle.term_tree.specs.Syntax.{sum}
+use Rattle.rules_loop.proofs.BesideLaws.{sum_as_body, sum_refused, sum_too_long}
+use Rattle.rules_loop.proofs.beside.rest_of_sum.Goals as goal
+
+pub returns-in-Ok : goal.returns-in-Ok
+returns-in-Ok c = λ raw h. subst (λ (n : Items). IfOk c.sum_of.result (IsDraft (sum n raw))) c.in-Ok.ensures.form (c.sum_of.ensures raw h)
+
+pub returns-in-Err-CoefficientTooLarge : goal.returns-in-Err-CoefficientTooLarge
+returns-in-Err-CoefficientTooLarge c = λ raw h.
+    let large : form_fits (difference_of c.args.n.now c.args.x.now) ≡ false = search rules in
+    sum_refused (difference_of c.args.n.now c.args.x.now) raw large
+
+pub returns-in-Err-IndexTooLong : goal.returns-in-Err-IndexTooLong
+returns-in-Err-IndexTooLong c = λ raw h.
+    let n = difference_of c.args.n.now c.args.x.now in
+    let fits : form_fits (difference_of c.args.n.now c.args.x.now) ≡ true = search rules in
+    let long : is_short (difference_of c.args.n.now c.args.x.now) ≡ false = search rules in
+    c.too_long.ensures raw (sum n raw) h (sum_as_body n raw fits) (sum_too_long n raw long)
