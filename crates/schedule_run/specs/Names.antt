@@ -18,7 +18,8 @@ gen_rule t =
     if bytes_eq t (codes "beta") then Some loop.Beta
     else (if bytes_eq t (codes "eta") then Some loop.Eta
     else (if bytes_eq t (codes "swap_gen") then Some loop.SwapGen
-    else (if bytes_eq t (codes "gen_sum") then Some loop.GenSum else None)))
+    else (if bytes_eq t (codes "gen_sum") then Some loop.GenSum
+    else (if bytes_eq t (codes "cut_gen") then Some loop.CutGen else None))))
 
 -- a rule of sums
 abbrev pub sum_rule : Text → Option LoopRule
@@ -26,7 +27,9 @@ sum_rule t =
     if bytes_eq t (codes "swap_sum") then Some loop.SwapSum
     else (if bytes_eq t (codes "sum_gen") then Some loop.SumGen
     else (if bytes_eq t (codes "sum_index") then Some loop.SumIndex
-    else (if bytes_eq t (codes "sum_add") then Some loop.SumAdd else None)))
+    else (if bytes_eq t (codes "sum_add") then Some loop.SumAdd
+    else (if bytes_eq t (codes "cut_sum") then Some loop.CutSum
+    else (if bytes_eq t (codes "mul_out_of_sum") then Some loop.MulOutOfSum else None)))))
 
 -- a rule of sums and differences of two terms
 abbrev pub add_rule : Text → Option LoopRule

@@ -22,6 +22,8 @@ fn gen_rule(name: &str) -> Option<LoopRule>
         Some(LoopRule::SwapGen)
     } else if name == "gen_sum" {
         Some(LoopRule::GenSum)
+    } else if name == "cut_gen" {
+        Some(LoopRule::CutGen)
     } else {
         None
     }
@@ -38,6 +40,10 @@ fn sum_rule(name: &str) -> Option<LoopRule>
         Some(LoopRule::SumIndex)
     } else if name == "sum_add" {
         Some(LoopRule::SumAdd)
+    } else if name == "cut_sum" {
+        Some(LoopRule::CutSum)
+    } else if name == "mul_out_of_sum" {
+        Some(LoopRule::MulOutOfSum)
     } else {
         None
     }
