@@ -1,11 +1,15 @@
 -- What the call of a rule takes of what the rule makes.
-use Rattle.std.proofs.Common.{◌≡◌, zero, suc, List, [], ◌∷◌, sym, subst, arith, Bool, true, false, ℕ, Option, Some, None, if◌then◌else◌, length, refl, ◌&&◌}
+use Rattle.std.proofs.Common.{◌≡◌, zero, suc, List, [], ◌∷◌, sym, subst, arith, Bool, true, false, ℕ, Option, Some, None, if◌then◌else◌, length, refl}
+use Rattle.std.proofs.Common.{◌&&◌}
 use Rattle.affine_index.specs.Limited.{items_scoped}
 use Rattle.affine_index.specs.Normal.{is_normal, is_ordered}
+use Rattle.affine_index.specs.declared.cond.Cond.{Cond}
 use Rattle.affine_index.specs.declared.form.Items.{Items}
 use Rattle.affine_index.proofs.ArithmeticLaws.{normal-ordered}
+use Rattle.shape_rules.specs.Scopes.{given}
 use Rattle.term_tree.specs.Limits.{every_form}
-use Rattle.term_tree.specs.Syntax.{add, flatten, gen, index, sub, sum, mul}
+use Rattle.term_tree.specs.Syntax.{add, flatten, gen, index, sub, sum, mul, guard}
+use Rattle.term_tree.specs.Shape.{shape_of}
 use Rattle.term_tree.specs.declared.term.Term.{Term}
 use Rattle.term_tree.proofs.FormLaws.{every_form-weaker}
 use Rattle.path_focus.specs.Focus.{IsProper}
@@ -17,22 +21,28 @@ use Rattle.path_focus.specs.declared.outcome.Outcome.TheVariants.{NoPattern, Wro
 use Rattle.path_focus.specs.declared.rule.Arg.{Arg}
 use Rattle.path_focus.specs.declared.rule.Arg.TheVariants.{Ix}
 use Rattle.path_focus.proofs.FocusMeaning.{facts_listed}
-use Rattle.rules_loop.specs.Patterns.{on_add, on_either, on_flatten, on_gen, on_index, on_sum, provided, on_mul}
+use Rattle.rules_loop.specs.Patterns.{on_add, on_either, on_flatten, on_gen, on_index, on_sum, provided, on_mul, on_guard, on_some}
 use Rattle.rules_loop.specs.Rules.{rule_of}
 use Rattle.rules_loop.specs.declared.rules.LoopRule.{LoopRule}
-use Rattle.rules_loop.specs.declared.rules.LoopRule.TheVariants.{Beta, Eta, SwapGen, CutGen, SwapSum, CutSum, SumGen, GenSum}
-use Rattle.rules_loop.specs.declared.rules.LoopRule.TheVariants.{SumIndex, SumAdd, AddSum, MulOutOfSum, AddIndex}
-use Rattle.rules_loop.specs.declared.rules.LoopRule.TheVariants.{SplitGen, SplitSum, SplitGenExact, FuseGen}
+use Rattle.rules_loop.specs.declared.rules.LoopRule.TheVariants.{Beta, Eta, SwapGen, CutGen, SwapSum, CutSum, SumGen, GenSum, SumIndex, SumAdd}
+use Rattle.rules_loop.specs.declared.rules.LoopRule.TheVariants.{AddSum, MulOutOfSum, AddIndex, SplitGen, SplitSum, SplitGenExact, FuseGen, SumOne}
+use Rattle.rules_loop.specs.declared.rules.LoopRule.TheVariants.{SumPick, Uneta, MulIntoSum}
 use Rattle.rules_loop.specs.Tilings.{divides, tile_of, with_number, with_tile}
 use Rattle.rules_loop.specs.Cuts.{further, with_cut, within_extent}
+use Rattle.rules_loop.specs.OneTurn.{equation, solved}
+use Rattle.rules_loop.specs.Raising.{first_extent}
 use Rattle.rules_loop.proofs.BetaLaw.{beta_keeps}
 use Rattle.rules_loop.proofs.CutLaws.{cut_gen_keeps, cut_sum_keeps}
 use Rattle.rules_loop.proofs.EtaLaws.{eta_keeps}
 use Rattle.rules_loop.proofs.IndexLaws.{add_index_keeps, sum_index_keeps}
+use Rattle.rules_loop.proofs.IntoLaws.{mul_into_sum_keeps}
 use Rattle.rules_loop.proofs.ProductLaws.{mul_out_of_sum_keeps}
+use Rattle.rules_loop.proofs.OneLaws.{sum_one_keeps}
+use Rattle.rules_loop.proofs.PickLaws.{sum_pick_keeps}
 use Rattle.rules_loop.proofs.SumLaws.{add_sum_keeps, sum_add_keeps}
 use Rattle.rules_loop.proofs.SwapLaws.{gen_sum_keeps, sum_gen_keeps, swap_gen_keeps, swap_sum_keeps}
 use Rattle.rules_loop.proofs.TilingLaws.{fuse_gen_keeps, split_gen_exact_keeps, split_gen_keeps, split_sum_keeps}
+use Rattle.rules_loop.proofs.UnetaLaws.{uneta_keeps}
 
 -- the facts of its conditions may be listed
 abbrev MeantListed : Meant → Type 0
@@ -59,6 +69,14 @@ at_add _ f h = tt
 at_mul : (t : Term) (f : Term → Term → Meant) → ((a b : Term) → MeantListed (f a b)) → MeantListed (on_mul t f)
 at_mul (mul a b) f h = h a b
 at_mul _ f h = tt
+
+at_guard : (t : Term) (f : Cond → Term → Meant) → ((c : Cond) (e : Term) → MeantListed (f c e)) → MeantListed (on_guard t f)
+at_guard (guard c e) f h = h c e
+at_guard _ f h = tt
+
+at_some : (o : Option Items) (f : Items → Meant) → ((n : Items) → MeantListed (f n)) → MeantListed (on_some o f)
+at_some (Some n) f h = h n
+at_some None f h = tt
 
 at_either : (t : Term) (f g : Term → Term → Meant) → ((a b : Term) → MeantListed (f a b)) → ((a b : Term) → MeantListed (g a b)) → MeantListed (on_either t f g)
 at_either (add a b) f g h k = h a b
@@ -105,13 +123,13 @@ cut_conditions f p n x (suc (suc k)) d h = absurd (omega (arith, h))
 no_conditions : AllListed []
 no_conditions k d h = absurd (omega (arith, h))
 
+each_listed : (f : Focus) → IsProper f → (n x : Items) → AllListed (one_of_rows f.facts n x)
+each_listed f p n x zero d h = facts_listed f p
+each_listed f p n x (suc zero) d h = facts_listed f p
+each_listed f p n x (suc (suc k)) d h = absurd (omega (arith, h))
+
 listed : (f : Focus) → IsProper f → (rule : LoopRule) (as' : List Arg) → MeantListed (rule_of f rule as')
-listed f p Beta as' = at_index f.term _ (λ e x. at_gen e _ (λ n b. with_none as' _ (both n x)))
-  where
-    both : (n x : Items) → AllListed (one_of_rows f.facts n x)
-    both n x zero d h = facts_listed f p
-    both n x (suc zero) d h = facts_listed f p
-    both n x (suc (suc k)) d h = absurd (omega (arith, h))
+listed f p Beta as' = at_index f.term _ (λ e x. at_gen e _ (λ n b. with_none as' _ (each_listed f p n x)))
 listed f p Eta as' = at_gen f.term _ (λ n e. at_index e _ (λ a x. if_provided _ _ (with_none as' _ no_conditions)))
 listed f p SwapGen as' = at_gen f.term _ (λ n e. at_gen e _ (λ m b. with_none as' _ no_conditions))
 listed f p CutGen as' = at_gen f.term _ (λ n b. with_one f as' _ (λ x. cut_conditions f p n x))
@@ -129,6 +147,11 @@ listed f p SplitSum as' = at_sum f.term _ (λ n b. with_tiles as' _ (λ k. no_co
 listed f p SplitGenExact as' = at_gen f.term _ (λ n b. with_tiles as' _ (λ k. if_fit (divides k n) _ no_conditions))
 listed f p FuseGen as' =
     at_flatten f.term _ (λ e. at_gen e _ (λ n d. at_gen d _ (λ m b. with_number_of (tile_of m) Unlike _ tt (λ k. with_none as' _ no_conditions))))
+listed f p SumOne as' = at_sum f.term _ (λ n b. if_provided _ _ (with_none as' _ no_conditions))
+listed f p SumPick as' =
+    at_sum f.term _ (λ n e. at_guard e _ (λ c b. at_some (equation c.all) _ (λ g. at_some (solved g) _ (λ x. with_none as' _ (each_listed f p n x)))))
+listed f p Uneta as' = at_some (first_extent (shape_of f.term (given f.shapes))) _ (λ n. with_none as' _ no_conditions)
+listed f p MulIntoSum as' = at_mul f.term _ (λ a e. at_sum e _ (λ n b. with_none as' _ no_conditions))
 
 made_listed : (m : Meant) (o : Outcome) → MeantListed m → IsOutcome m o → MadeListed o
 made_listed m NoPattern l h = tt
@@ -158,6 +181,10 @@ kept f SplitGen as' p o = split_gen_keeps f p o as'
 kept f SplitSum as' p o = split_sum_keeps f p o as'
 kept f SplitGenExact as' p o = split_gen_exact_keeps f p o as'
 kept f FuseGen as' p o = fuse_gen_keeps f p o as'
+kept f SumOne as' p o = sum_one_keeps f p o as'
+kept f SumPick as' p o = sum_pick_keeps f p o as'
+kept f Uneta as' p o = uneta_keeps f p o as'
+kept f MulIntoSum as' p o = mul_into_sum_keeps f p o as'
 
 pub rule_keeps : (f : Focus) (rule : LoopRule) (as' : List Arg) → IsProper f → every_form is_normal f.term ≡ true → MeantKeeps f (rule_of f rule as')
 rule_keeps f rule as' p o = kept f rule as' p (every_form-weaker is_normal is_ordered normal-ordered f.term o)

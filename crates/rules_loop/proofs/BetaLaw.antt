@@ -52,7 +52,7 @@ module _ (f : Focus) (n : Items) (b : Term) (x : Items) where
   abbrev pub IsRow : List ℕ → List ℕ → Type 0
   IsRow s r = (v : ℕ) × (items_value s r x ≡ pos v) × (v < extent n s)
 
-  is_row : (sizes : ℕ) → items_scoped sizes 0 n ≡ true → AllTrueGoals (one_of_rows f.facts n x) → (s r : List ℕ) → FactsHold f.facts s r → IsRow s r
+  pub is_row : (sizes : ℕ) → items_scoped sizes 0 n ≡ true → AllTrueGoals (one_of_rows f.facts n x) → (s r : List ℕ) → FactsHold f.facts s r → IsRow s r
   is_row sizes c true_goals s r h =
       let low = goal_true f.facts x (true_goals zero (owed f.facts x) (omega arith)) s r h in
       let high = goal_true f.facts (rest_below n x) (true_goals (suc zero) (owed f.facts (rest_below n x)) (omega arith)) s r h in

@@ -1,16 +1,19 @@
 pub mod ApplyLaws
 pub mod BesideLaws
 pub mod BetaLaw
-pub mod Coefficients
 pub mod CancelLaws
+pub mod Coefficients
 pub mod CutArguments
 pub mod CutLaws
 pub mod DraftLaws
 pub mod EtaLaws
 pub mod FormedLaws
 pub mod IndexLaws
+pub mod IntoLaws
+pub mod OneLaws
 pub mod Parts
 pub mod PatternLaws
+pub mod PickLaws
 pub mod ProductLaws
 pub mod ReachLaws
 pub mod Replacing
@@ -22,4 +25,6 @@ pub mod TileForms
 pub mod TileRows
 pub mod TileShapes
 pub mod TilingLaws
+pub mod TurnReach
+pub mod UnetaLaws
 pub mod WiderLaws

@@ -1,12 +1,13 @@
 -- A term of one form, or of another.
 use Rattle.std.proofs.Common.{◌≡◌, refl, sym, ◌∙◌}
+use Rattle.affine_index.specs.declared.cond.Cond.{Cond}
 use Rattle.affine_index.specs.declared.form.Items.{Items}
 use Rattle.path_focus.specs.Outcome.{Meant, Unlike}
-use Rattle.rules_loop.specs.Patterns.{on_add, on_either, on_flatten, on_gen, on_index, on_sum, on_mul}
-use Rattle.term_tree.specs.Syntax.{add, flatten, gen, index, sub, sum, mul}
+use Rattle.rules_loop.specs.Patterns.{on_add, on_either, on_flatten, on_gen, on_index, on_sum, on_mul, on_guard}
+use Rattle.term_tree.specs.Syntax.{add, flatten, gen, index, sub, sum, mul, guard}
 use Rattle.term_tree.specs.declared.term.Term.{Term}
-use Rattle.term_tree.specs.declared.term.Term.TheVariants.{Add, Flatten, Gen, Index, Sub, Sum, Mul}
-use Rattle.term_tree.proofs.Forms.{Add-is, Flatten-is, Gen-is, Index-is, Sub-is, Sum-is, Mul-is}
+use Rattle.term_tree.specs.declared.term.Term.TheVariants.{Add, Flatten, Gen, Index, Sub, Sum, Mul, Guard}
+use Rattle.term_tree.proofs.Forms.{Add-is, Flatten-is, Gen-is, Index-is, Sub-is, Sum-is, Mul-is, Guard-is}
 
 pub not_index : (t : Term) → ((e : Term) (x : Items) → t ≡ Index e x → ⊥) → (f : Term → Items → Meant) → on_index t f ≡ Unlike
 not_index (index e x) h f = absurd (h e x (sym (Index-is e x)))
@@ -31,6 +32,10 @@ not_add _ h f = refl
 pub not_mul : (t : Term) → ((a b : Term) → t ≡ Mul a b → ⊥) → (f : Term → Term → Meant) → on_mul t f ≡ Unlike
 not_mul (mul a b) h f = absurd (h a b (sym (Mul-is a b)))
 not_mul _ h f = refl
+
+pub not_guard : (t : Term) → ((c : Cond) (e : Term) → t ≡ Guard c e → ⊥) → (f : Cond → Term → Meant) → on_guard t f ≡ Unlike
+not_guard (guard c e) h f = absurd (h c e (sym (Guard-is c e)))
+not_guard _ h f = refl
 
 pub not_either : (t : Term) → ((a b : Term) → t ≡ Add a b → ⊥) → ((a b : Term) → t ≡ Sub a b → ⊥) → (f g : Term → Term → Meant) → on_either t f g ≡ Unlike
 not_either (add a b) h k f g = absurd (h a b (sym (Add-is a b)))
@@ -57,6 +62,9 @@ pub ruleset flatten_parts = (not_flatten, is_flatten)
 pub is_mul : (t a b : Term) → t ≡ Mul a b → t ≡ mul a b
 is_mul t a b h = h ∙ Mul-is a b
 
+pub is_guard : (t : Term) (c : Cond) (e : Term) → t ≡ Guard c e → t ≡ guard c e
+is_guard t c e h = h ∙ Guard-is c e
+
 pub ruleset index_parts = (not_index, is_index)
 
 pub ruleset gen_parts = (not_gen, is_gen)
@@ -66,3 +74,5 @@ pub ruleset sum_parts = (not_sum, is_sum)
 pub ruleset add_parts = (not_add, is_add)
 
 pub ruleset mul_parts = (not_mul, is_mul)
+
+pub ruleset guard_parts = (not_guard, is_guard)

@@ -1,9 +1,10 @@
 -- Patterns of rules: what is made of the parts of a term of this form, or that it has another one.
-use Rattle.std.specs.Prelude.{Bool, false, if◌then◌else◌, ◌∷◌, Ok}
+use Rattle.std.specs.Prelude.{Bool, false, if◌then◌else◌, ◌∷◌, Ok, Option, Some, None}
+use Rattle.affine_index.specs.declared.cond.Cond.{Cond}
 use Rattle.affine_index.specs.declared.form.Items.{Items}
 use Rattle.path_focus.specs.Outcome.{Meant, Unlike}
 use Rattle.term_tree.specs.Shape.{Shaped, same_form}
-use Rattle.term_tree.specs.Syntax.{index, flatten, gen, sum, add, sub, mul}
+use Rattle.term_tree.specs.Syntax.{index, flatten, gen, sum, add, sub, mul, guard}
 use Rattle.term_tree.specs.declared.term.Term.{Term}
 
 abbrev pub on_index : Term → (Term → Items → Meant) → Meant
@@ -30,6 +31,10 @@ abbrev pub on_mul : Term → (Term → Term → Meant) → Meant
 on_mul (mul a b) f = f a b
 on_mul _ f = Unlike
 
+abbrev pub on_guard : Term → (Cond → Term → Meant) → Meant
+on_guard (guard c e) f = f c e
+on_guard _ f = Unlike
+
 -- a sum of two terms, or their difference
 abbrev pub on_either : Term → (Term → Term → Meant) → (Term → Term → Meant) → Meant
 on_either (add a b) f g = f a b
@@ -44,3 +49,8 @@ provided b m = if b then m else Unlike
 abbrev pub is_first : Items → Shaped → Bool
 is_first n (Ok (m ∷ ms)) = same_form m n
 is_first n _ = false
+
+-- what is made of a form, where there is one
+abbrev pub on_some : Option Items → (Items → Meant) → Meant
+on_some (Some n) f = f n
+on_some None f = Unlike

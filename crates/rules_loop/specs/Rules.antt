@@ -6,12 +6,14 @@ use Rattle.path_focus.specs.declared.rule.Arg.{Arg}
 use Rattle.path_focus.specs.declared.rule.Condition.{Condition}
 use Rattle.path_focus.specs.declared.rule.RuleFault.{RuleFault}
 use Rattle.path_focus.specs.declared.rule.RuleFault.TheVariants.{Memory}
+use Rattle.rules_loop.specs.OneTurn as one_turn
+use Rattle.rules_loop.specs.Raising as raising
 use Rattle.rules_loop.specs.Table as table
 use Rattle.rules_loop.specs.Tilings as tilings
 use Rattle.rules_loop.specs.declared.rules.LoopRule.{LoopRule}
-use Rattle.rules_loop.specs.declared.rules.LoopRule.TheVariants.{Beta, Eta, SwapGen, CutGen, SwapSum, CutSum, SumGen, GenSum}
-use Rattle.rules_loop.specs.declared.rules.LoopRule.TheVariants.{SumIndex, SumAdd, AddSum, MulOutOfSum, AddIndex}
-use Rattle.rules_loop.specs.declared.rules.LoopRule.TheVariants.{SplitGen, SplitSum, SplitGenExact, FuseGen}
+use Rattle.rules_loop.specs.declared.rules.LoopRule.TheVariants.{Beta, Eta, SwapGen, CutGen, SwapSum, CutSum, SumGen, GenSum, SumIndex, SumAdd}
+use Rattle.rules_loop.specs.declared.rules.LoopRule.TheVariants.{AddSum, MulOutOfSum, AddIndex, SplitGen, SplitSum, SplitGenExact, FuseGen, SumOne}
+use Rattle.rules_loop.specs.declared.rules.LoopRule.TheVariants.{SumPick, Uneta, MulIntoSum}
 
 -- what a rule makes of a focus and arguments
 abbrev pub rule_of : Focus → LoopRule → List Arg → Meant
@@ -32,6 +34,10 @@ rule_of f SplitGen = tilings.split_gen f
 rule_of f SplitSum = tilings.split_sum f
 rule_of f SplitGenExact = tilings.split_gen_exact f
 rule_of f FuseGen = tilings.fuse_gen f
+rule_of f SumOne = one_turn.sum_one f
+rule_of f SumPick = one_turn.sum_pick f
+rule_of f Uneta = raising.uneta f
+rule_of f MulIntoSum = raising.mul_into_sum f
 
 -- the conditions, unless memory runs out
 abbrev pub IsConditions : Result (List Condition) RuleFault → Result (List Condition) RuleFault → Type 0

@@ -1,6 +1,8 @@
 //! What each rule owes, as the contracts of functions that do nothing.
 
 ghost use Rattle.path_focus.specs.Outcome.{RuleKeeps};
+ghost use Rattle.rules_loop.specs.OneTurn as one_turn;
+ghost use Rattle.rules_loop.specs.Raising as raising;
 ghost use Rattle.rules_loop.specs.Table as table;
 ghost use Rattle.rules_loop.specs.Tilings as tilings;
 
@@ -87,4 +89,24 @@ pub fn split_gen_exact_keeps()
 /// Rows of rows, flattened, are the rows of one gen.
 pub fn fuse_gen_keeps()
     ensures { RuleKeeps tilings.fuse_gen }
+{}
+
+/// A sum of one term is that term.
+pub fn sum_one_keeps()
+    ensures { RuleKeeps one_turn.sum_one }
+{}
+
+/// A sum whose guard is an equation for its variable is the turn that it names.
+pub fn sum_pick_keeps()
+    ensures { RuleKeeps one_turn.sum_pick }
+{}
+
+/// A term of rank 1 or more is the gen of its rows.
+pub fn uneta_keeps()
+    ensures { RuleKeeps raising.uneta }
+{}
+
+/// A word times a sum is the sum of the products.
+pub fn mul_into_sum_keeps()
+    ensures { RuleKeeps raising.mul_into_sum }
 {}

@@ -1,13 +1,14 @@
 //! The parts of terms of one form.
 
 ghost use Rattle.std.specs.Prelude.{◌≡◌, MatchOption};
+ghost use Rattle.affine_index.specs.declared.cond.Cond as cond;
 ghost use Rattle.affine_index.specs.declared.form.Items as form;
 ghost use Rattle.path_focus.specs.Outcome.{Meant, Unlike};
 ghost use Rattle.rules_loop.specs.Patterns as on;
 ghost use Rattle.term_tree.specs.Syntax as tree;
 ghost use Rattle.term_tree.specs.declared.term.Term as spec;
 
-use affine_index::Aff;
+use affine_index::{Aff, Cond};
 use term_tree::Term;
 
 #[tactic(auto, using(crate::proofs::Parts::index_parts))]
@@ -66,6 +67,16 @@ pub fn as_mul(term: &Term) -> Option<(&Term, &Term)>
 {
     match term {
         Term::Mul(a, b) => Some((a.get(), b.get())),
+        _ => None,
+    }
+}
+
+#[tactic(auto, using(crate::proofs::Parts::guard_parts))]
+pub fn as_guard(term: &Term) -> Option<(&Cond, &Term)>
+    ensures { MatchOption result ((f : cond.Cond → spec.Term → Meant) → on.on_guard term.now f ≡ Unlike) (λ parts. term.now ≡ tree.guard parts.0.now parts.1.now) }
+{
+    match term {
+        Term::Guard(c, e) => Some((c, e.get())),
         _ => None,
     }
 }

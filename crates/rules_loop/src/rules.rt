@@ -7,7 +7,9 @@ ghost use Rattle.rules_loop.specs.Rules.{IsConditions, rule_of};
 
 use crate::cuts::{cut_gen, cut_sum};
 use crate::fusing::{fuse_gen, split_gen_exact};
+use crate::one_turn::{sum_one, sum_pick};
 use crate::products::mul_out_of_sum;
+use crate::raising::{mul_into_sum, uneta};
 use crate::rows::{beta, eta};
 use crate::sums::{add_index, add_sum, sum_add, sum_index};
 use crate::swaps::{gen_sum, sum_gen, swap_gen, swap_sum};
@@ -39,6 +41,10 @@ pub enum LoopRule {
     SplitSum,
     SplitGenExact,
     FuseGen,
+    SumOne,
+    SumPick,
+    Uneta,
+    MulIntoSum,
 }
 
 fn outcome(
@@ -68,6 +74,10 @@ fn outcome(
         LoopRule::SplitSum => split_sum(alloc, focus, args),
         LoopRule::SplitGenExact => split_gen_exact(alloc, focus, args),
         LoopRule::FuseGen => fuse_gen(alloc, focus, args),
+        LoopRule::SumOne => sum_one(alloc, focus, args),
+        LoopRule::SumPick => sum_pick(alloc, focus, args),
+        LoopRule::Uneta => uneta(alloc, focus, args),
+        LoopRule::MulIntoSum => mul_into_sum(alloc, focus, args),
     }
 }
 
