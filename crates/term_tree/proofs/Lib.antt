@@ -1,3 +1,4 @@
+pub mod EqualLaws
 pub mod Folds
 pub mod FormLaws
 pub mod Forms

@@ -1,6 +1,7 @@
 pub mod Children
 pub mod Counts
 pub mod Goals
+pub mod Kinds
 pub mod Limits
 pub mod Meaning
 pub mod Modules

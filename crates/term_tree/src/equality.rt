@@ -31,7 +31,16 @@ fn same_cond(a: &Cond, b: &Cond) -> bool
     true
 }
 
+/// Whether two parts are equal too. Parts of nodes that differ before are not looked at.
+#[cycle(same)]
+fn and_same(first: bool, d: &Term, e: &Term) -> bool
+    ensures { IsTrue result ↔ (IsTrue first × (d.now ≡ e.now)) }
+{
+    first && same(d, e)
+}
+
 /// Whether two terms are equal.
+#[cycle(same)]
 pub fn same(a: &Term, b: &Term) -> bool
     ensures { IsTrue result ↔ (a.now ≡ b.now) }
 {
@@ -49,7 +58,7 @@ pub fn same(a: &Term, b: &Term) -> bool
             _ => false,
         },
         Term::Index(d, x) => match b {
-            Term::Index(e, y) => x.same(y) && same(d.get(), e.get()),
+            Term::Index(e, y) => and_same(x.same(y), d.get(), e.get()),
             _ => false,
         },
         Term::Flatten(d) => match b {
@@ -65,51 +74,51 @@ pub fn same(a: &Term, b: &Term) -> bool
             _ => false,
         },
         Term::Guard(x, d) => match b {
-            Term::Guard(y, e) => same_cond(x, y) && same(d.get(), e.get()),
+            Term::Guard(y, e) => and_same(same_cond(x, y), d.get(), e.get()),
             _ => false,
         },
         Term::Gen(x, d) => match b {
-            Term::Gen(y, e) => x.same(y) && same(d.get(), e.get()),
+            Term::Gen(y, e) => and_same(x.same(y), d.get(), e.get()),
             _ => false,
         },
         Term::Sum(x, d) => match b {
-            Term::Sum(y, e) => x.same(y) && same(d.get(), e.get()),
+            Term::Sum(y, e) => and_same(x.same(y), d.get(), e.get()),
             _ => false,
         },
         Term::TruncL(x, d) => match b {
-            Term::TruncL(y, e) => x.same(y) && same(d.get(), e.get()),
+            Term::TruncL(y, e) => and_same(x.same(y), d.get(), e.get()),
             _ => false,
         },
         Term::TruncR(x, d) => match b {
-            Term::TruncR(y, e) => x.same(y) && same(d.get(), e.get()),
+            Term::TruncR(y, e) => and_same(x.same(y), d.get(), e.get()),
             _ => false,
         },
         Term::PadL(x, d) => match b {
-            Term::PadL(y, e) => x.same(y) && same(d.get(), e.get()),
+            Term::PadL(y, e) => and_same(x.same(y), d.get(), e.get()),
             _ => false,
         },
         Term::PadR(x, d) => match b {
-            Term::PadR(y, e) => x.same(y) && same(d.get(), e.get()),
+            Term::PadR(y, e) => and_same(x.same(y), d.get(), e.get()),
             _ => false,
         },
         Term::Let(c, d) => match b {
-            Term::Let(e, f) => same(c.get(), e.get()) && same(d.get(), f.get()),
+            Term::Let(e, f) => and_same(same(c.get(), e.get()), d.get(), f.get()),
             _ => false,
         },
         Term::Add(c, d) => match b {
-            Term::Add(e, f) => same(c.get(), e.get()) && same(d.get(), f.get()),
+            Term::Add(e, f) => and_same(same(c.get(), e.get()), d.get(), f.get()),
             _ => false,
         },
         Term::Sub(c, d) => match b {
-            Term::Sub(e, f) => same(c.get(), e.get()) && same(d.get(), f.get()),
+            Term::Sub(e, f) => and_same(same(c.get(), e.get()), d.get(), f.get()),
             _ => false,
         },
         Term::Mul(c, d) => match b {
-            Term::Mul(e, f) => same(c.get(), e.get()) && same(d.get(), f.get()),
+            Term::Mul(e, f) => and_same(same(c.get(), e.get()), d.get(), f.get()),
             _ => false,
         },
         Term::Concat(c, d) => match b {
-            Term::Concat(e, f) => same(c.get(), e.get()) && same(d.get(), f.get()),
+            Term::Concat(e, f) => and_same(same(c.get(), e.get()), d.get(), f.get()),
             _ => false,
         },
     }

@@ -7,6 +7,7 @@ mod count;
 mod depths;
 mod equality;
 mod folding;
+mod kinds;
 mod name;
 mod normality;
 mod refusal;
