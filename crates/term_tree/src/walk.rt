@@ -1,6 +1,6 @@
 //! The answer of a fold, from the leaves upward.
 
-ghost use Rattle.std.specs.Prelude.{◌≡◌, ◌+◌, ◌^◌, ◌<◌, ◌≤◌, IfOk, [], ◌∷◌};
+ghost use Rattle.std.specs.Prelude.{◌≡◌, ◌+◌, ◌^◌, ◌<◌, ◌≤◌, IfOk, Ok, [], ◌∷◌};
 ghost use Rattle.term_tree.specs.Children.{AreRight, children};
 ghost use Rattle.term_tree.specs.Counts.{depth_fold, node_depth};
 
@@ -8,6 +8,7 @@ use crate::depths::Depths;
 use crate::folding::Fold;
 use crate::refusal::TreeRefusal;
 use crate::term::Term;
+use owned_values::two as pair;
 use std::alloc::{AllocError, Global};
 
 /// What f answers for the term under so many binders; each node is visited once, after its children.
@@ -57,30 +58,50 @@ fn parts<F: Fold>(
         | Term::TruncL(_, child)
         | Term::TruncR(_, child)
         | Term::PadL(_, child)
-        | Term::PadR(_, child) => Ok(one(alloc, answer(alloc, f, depths, child.get())?)?),
+        | Term::PadR(_, child) => only(alloc, answer(alloc, f, depths, child.get())),
         Term::Gen(_, child) | Term::Sum(_, child) => {
             let inner = Depths {
                 index: depths.index + 1,
                 tensor: depths.tensor,
             };
-            Ok(one(alloc, answer(alloc, f, inner, child.get())?)?)
+            only(alloc, answer(alloc, f, inner, child.get()))
         }
         Term::Let(definition, body) => {
-            let first = answer(alloc, f, depths, definition.get())?;
+            let first = answer(alloc, f, depths, definition.get());
             let inner = Depths {
                 index: depths.index,
                 tensor: depths.tensor + 1,
             };
-            Ok(two(alloc, first, answer(alloc, f, inner, body.get())?)?)
+            both(alloc, first, answer(alloc, f, inner, body.get()))
         }
         Term::Add(left, right)
         | Term::Sub(left, right)
         | Term::Mul(left, right)
         | Term::Concat(left, right) => {
-            let first = answer(alloc, f, depths, left.get())?;
-            Ok(two(alloc, first, answer(alloc, f, depths, right.get())?)?)
+            let first = answer(alloc, f, depths, left.get());
+            both(alloc, first, answer(alloc, f, depths, right.get()))
         }
     }
+}
+
+/// The list of one answer, or its refusal.
+fn only<T: Drop>(alloc: Global, part: Result<T, TreeRefusal>) -> Result<Vec<T>, TreeRefusal>
+    ensures { IfOk result (λ v. (x : T) × (part ≡ Ok x) × (v.items ≡ x ∷ [])) }
+{
+    let part = part?;
+    Ok(one(alloc, part)?)
+}
+
+/// The list of two answers, or the first refusal.
+fn both<T: Drop>(
+    alloc: Global,
+    first: Result<T, TreeRefusal>,
+    second: Result<T, TreeRefusal>,
+) -> Result<Vec<T>, TreeRefusal>
+    ensures { IfOk result (λ v. (x : T) × ((y : T) × ((first ≡ Ok x) × ((second ≡ Ok y) × (v.items ≡ x ∷ (y ∷ [])))))) }
+{
+    let (first, second) = pair(first, second)?;
+    Ok(two(alloc, first, second)?)
 }
 
 fn one<T: Drop>(alloc: Global, part: T) -> Result<Vec<T>, AllocError>
