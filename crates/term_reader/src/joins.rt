@@ -1,17 +1,18 @@
 //! What the operators of an index make.
 
-ghost use Rattle.std.specs.Prelude.{◌≡◌, ◌<◌, ◌≤◌, ◌^◌, pos, true, IfOk, MatchResult};
+ghost use Rattle.std.specs.Prelude.{◌≡◌, ◌<◌, ◌≤◌, ◌^◌, pos, negsuc, true, IfOk, MatchResult};
 ghost use Rattle.affine_index.specs.Form.{literal_form};
 ghost use Rattle.affine_index.specs.Normal.{Refused, is_normal};
-ghost use Rattle.affine_index.specs.Sum.{sum_of, difference_of};
+ghost use Rattle.affine_index.specs.Sum.{sum_of, difference_of, scaled};
 ghost use Rattle.affine_index.specs.Quotient.{quotient_of, remainder_of};
+ghost use Rattle.affine_index.specs.declared.refusal.AffRefusal.TheVariants as refusal;
 ghost use Rattle.reader_laws.specs.declared.fault.ReadError.TheVariants.{Memory};
 ghost use Rattle.reader_laws.specs.Steps.{Gives};
 ghost use Rattle.source_grammar.specs.Limits.{tested, multiplied};
 ghost use Rattle.term_reader.specs.Steps.{placed, located, gap_of};
 ghost use Rattle.term_reader.specs.Steps as steps;
 
-use affine_index::raw::{copied, scaled, sum, within_limits};
+use affine_index::raw::{Wide, copied, scaled, sum, within_limits};
 use affine_index::{Aff, AffRefusal, Rel};
 use reader_laws::{Fault, ReadError};
 use std::alloc::Global;
@@ -97,18 +98,37 @@ pub fn negated(alloc: Global, form: Aff) -> Result<Aff, ReadError>
     }
 }
 
-/// `left - right - 1`, of which only the whole is within limits.
-#[tactic(auto, using(crate::proofs::Gaps::minus_room, crate::proofs::Gaps::difference_room, crate::proofs::Gaps::gap_room, crate::proofs::Gaps::gap_ordered))]
-fn gap(alloc: Global, left: &Aff, right: &Aff) -> Result<Aff, AffRefusal>
-    ensures { MatchResult result (λ x. x ≡ gap_of left.now right.now) (λ e. Refused (gap_of left.now right.now) e) }
+/// `left - right`, without limits.
+#[tactic(auto, using(crate::proofs::Gaps::minus_room, crate::proofs::Gaps::difference_room))]
+fn difference(alloc: Global, left: &Aff, right: &Aff) -> Result<Wide, AffRefusal>
+    ensures { MatchResult result (λ x. x ≡ difference_of left.now right.now) (λ e. e ≡ refusal.Memory) }
 {
     let a = copied(alloc, left)?;
     let b = copied(alloc, right)?;
     let minus = scaled(alloc, -1, b)?;
-    let difference = sum(alloc, a, minus)?;
+    Ok(sum(alloc, a, minus)?)
+}
+
+/// -1, without limits.
+#[tactic(auto, using(crate::proofs::Gaps::minus_room))]
+fn minus_one(alloc: Global) -> Result<Wide, AffRefusal>
+    ensures { MatchResult result (λ x. x ≡ scaled (negsuc 0) (literal_form (pos 1))) (λ e. e ≡ refusal.Memory) }
+{
     let one = Aff::literal(alloc, 1)?;
-    let minus_one = scaled(alloc, -1, copied(alloc, &one)?)?;
-    let gap = sum(alloc, difference, minus_one)?;
+    let copy = copied(alloc, &one)?;
+    Ok(scaled(alloc, -1, copy)?)
+}
+
+/// `left - right - 1`, of which only the whole is within limits.
+#[tactic(auto, using(crate::proofs::Gaps::gap_room, crate::proofs::Gaps::gap_ordered))]
+fn gap(alloc: Global, left: &Aff, right: &Aff) -> Result<Aff, AffRefusal>
+    ensures { MatchResult result (λ x. x ≡ gap_of left.now right.now) (λ e. Refused (gap_of left.now right.now) e) }
+{
+    left.told();
+    right.told();
+    let difference = difference(alloc, left, right)?;
+    let minus = minus_one(alloc)?;
+    let gap = sum(alloc, difference, minus)?;
     within_limits(alloc, gap)
 }
 
