@@ -12,16 +12,11 @@ use Rattle.term_tree.specs.declared.term.Term.TheVariants.{rolls-Index, rolls-Ge
 use Rattle.term_tree.specs.declared.term.Term.TheVariants.{rolls-Mul, rolls-Concat, rolls-TruncL, rolls-TruncR, rolls-PadL, rolls-PadR}
 use Rattle.term_tree.specs.Limits.{coefficients_fit, each_cmp, form_step, forms_short}
 use Rattle.binders.specs.Answers.{IsCond, IsForm, IsPart, IsPartOf, Refusals, form_causes, is_memory, part_causes, parts_of, place_step, tensor_refused}
+use Rattle.binders.specs.Kinds.{node_of}
 use Rattle.binders.specs.Maps.{Replacement, map_fold, map_step, put_at, put_cond_at}
 use Rattle.binders.specs.Uses.{any_cmp}
 use Rattle.binders.specs.declared.refusal.MapRefusal.{MapRefusal}
 use Rattle.binders.proofs.CauseLaws.{first, second}
-
--- the node of two parts
-abbrev pub node_of : {A B : Type 0} → (A → B → Term) → Result (Option (A × B)) MapRefusal → Result (Option Term) MapRefusal
-node_of make (Ok (Some p)) = Ok (Some (make p.0 p.1))
-node_of make (Ok None) = Ok None
-node_of make (Err e) = Err e
 
 -- a fold at each node of two parts
 module _ (A : Type 0) (step : Term-F A → A) where
@@ -94,11 +89,11 @@ module _ (m : Replacement) (r : Refusals) where
   Copy n = IsForm n (λ d. false)
 
   module _ (z : Term) (i j : ℕ) where
-    -- a refusal of a part is handed on
-    pub part_handed_on : {A B : Type 0} (make : A → B → Term) (k : Result (Option A) MapRefusal) (l : Result (Option B) MapRefusal)
-        (a : Result (Option (A × B)) MapRefusal) (d e : MapRefusal) (b : Result (Option Term) MapRefusal)
-        → a ≡ parts_of k l → a ≡ Err d → e ≡ d → b ≡ Err e → Part z i j (node_of make (parts_of k l)) → Part z i j b
-    part_handed_on make k l a d e b is s t u h = subst (Part z i j) (sym (u ∙ ap Err t)) (subst (λ x. Part z i j (node_of make x)) (sym is ∙ s) h)
+    -- a node is what its parts give
+    pub made : {A B : Type 0} (make : A → B → Term) (k : Result (Option A) MapRefusal) (l : Result (Option B) MapRefusal)
+        (a : Result (Option (A × B)) MapRefusal) (b : Result (Option Term) MapRefusal)
+        → a ≡ parts_of k l → b ≡ node_of make a → Part z i j (node_of make (parts_of k l)) → Part z i j b
+    made make k l a b is s h = subst (Part z i j) (sym (s ∙ ap (node_of make) is)) h
 
     module _ {A B : Type 0} (make : A → B → Term) (x : A) (y : B) (f f' s s' : Bool) (k k' : MapRefusal → Bool) (is : raw z i j ≡ make x y)
         (fits : coefficients_fit (make x y) ≡ (f && f')) (short : forms_short (make x y) ≡ (s && s'))

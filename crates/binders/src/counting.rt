@@ -8,6 +8,7 @@ ghost use Rattle.binders.specs.Counting.{IsCount, counts_together, mapped_nodes}
 use crate::mapping::{under_index, under_tensor};
 use crate::refusal::MapRefusal;
 use crate::var_map::VarMap;
+use owned_values::spent;
 use sqlite_items::Boxed;
 use std::alloc::Global;
 use term_tree::{Depths, Term, nodes};
@@ -18,7 +19,11 @@ fn replaced<M: VarMap>(alloc: Global, map: &M, depths: Depths, var: u32) -> Resu
     ensures { IsCount (node_count ((M.meaning map.now).for_tensor depths.index depths.tensor var)) (λ e. tensor_refused (M.refusals map.now) e depths.index depths.tensor var) result }
 {
     match map.tensor(alloc, depths, var) {
-        Ok(term) => Ok(nodes(&term)),
+        Ok(term) => {
+            let count = nodes(&term);
+            spent(term);
+            Ok(count)
+        }
         Err(refusal) => Err(refusal),
     }
 }

@@ -5,6 +5,7 @@ ghost use Rattle.binders.specs.Answers.{IsAnswer};
 use crate::refusal::MapRefusal;
 use crate::var_map::VarMap;
 use affine_index::Aff;
+use owned_values::spent;
 use std::alloc::Global;
 use term_tree::{Depths, Term, told};
 
@@ -31,6 +32,7 @@ impl<M: VarMap> VarMap for Hollow<'_, M> {
         match self.map.tensor(alloc, depths, var) {
             Ok(term) => {
                 told(&term);
+                spent(term);
                 Ok(Term::Lit(0))
             }
             Err(refusal) => Err(refusal),

@@ -5,6 +5,7 @@ mod bound;
 mod counting;
 mod free;
 mod hollow;
+mod kinds;
 mod mapped;
 mod mapping;
 mod moving;

@@ -5,6 +5,7 @@ ghost use Rattle.term_tree.specs.Counts.{depth_fold};
 ghost use Rattle.binders.specs.Answers.{IsForm, IsPartOf, form_beyond, part_causes, parts_of, place_fold, tensor_refused};
 ghost use Rattle.binders.specs.Maps.{map_fold};
 
+use crate::kinds::{PairKind, RowKind, guard_node, index_node, pair_node, row_node};
 use crate::refusal::MapRefusal;
 use crate::replacement::{put_cond, put_form};
 use crate::var_map::VarMap;
@@ -125,63 +126,45 @@ pub fn part<M: VarMap>(
             Some(x) => Ok(Some(Term::WordOf(x))),
             None => Ok(None),
         },
-        Term::Index(e, x) => match parts(
+        Term::Index(e, x) => index_node(parts(
             below(alloc, map, depths, e),
             put_form(alloc, map, depths, x),
-        )? {
-            Some((e, x)) => Ok(Some(Term::Index(e, x))),
-            None => Ok(None),
-        },
-        Term::Gen(n, e) => match parts(copy(alloc, n), below(alloc, map, under_index(depths), e))? {
-            Some((n, e)) => Ok(Some(Term::Gen(n, e))),
-            None => Ok(None),
-        },
-        Term::Sum(n, e) => match parts(copy(alloc, n), below(alloc, map, under_index(depths), e))? {
-            Some((n, e)) => Ok(Some(Term::Sum(n, e))),
-            None => Ok(None),
-        },
-        Term::Guard(c, e) => match parts(
+        )),
+        Term::Gen(n, e) => row_node(
+            RowKind::Gen,
+            parts(copy(alloc, n), below(alloc, map, under_index(depths), e)),
+        ),
+        Term::Sum(n, e) => row_node(
+            RowKind::Sum,
+            parts(copy(alloc, n), below(alloc, map, under_index(depths), e)),
+        ),
+        Term::Guard(c, e) => guard_node(parts(
             put_cond(alloc, map, depths, c),
             below(alloc, map, depths, e),
-        )? {
-            Some((c, e)) => Ok(Some(Term::Guard(c, e))),
-            None => Ok(None),
-        },
-        Term::Let(a, b) => match parts(
-            below(alloc, map, depths, a),
-            below(alloc, map, under_tensor(depths), b),
-        )? {
-            Some((a, b)) => Ok(Some(Term::Let(a, b))),
-            None => Ok(None),
-        },
-        Term::Add(a, b) => match parts(
-            below(alloc, map, depths, a),
-            below(alloc, map, depths, b),
-        )? {
-            Some((a, b)) => Ok(Some(Term::Add(a, b))),
-            None => Ok(None),
-        },
-        Term::Sub(a, b) => match parts(
-            below(alloc, map, depths, a),
-            below(alloc, map, depths, b),
-        )? {
-            Some((a, b)) => Ok(Some(Term::Sub(a, b))),
-            None => Ok(None),
-        },
-        Term::Mul(a, b) => match parts(
-            below(alloc, map, depths, a),
-            below(alloc, map, depths, b),
-        )? {
-            Some((a, b)) => Ok(Some(Term::Mul(a, b))),
-            None => Ok(None),
-        },
-        Term::Concat(a, b) => match parts(
-            below(alloc, map, depths, a),
-            below(alloc, map, depths, b),
-        )? {
-            Some((a, b)) => Ok(Some(Term::Concat(a, b))),
-            None => Ok(None),
-        },
+        )),
+        Term::Let(a, b) => pair_node(
+            PairKind::Let,
+            parts(
+                below(alloc, map, depths, a),
+                below(alloc, map, under_tensor(depths), b),
+            ),
+        ),
+        Term::Add(a, b) => pair_node(
+            PairKind::Add,
+            parts(below(alloc, map, depths, a), below(alloc, map, depths, b)),
+        ),
+        Term::Sub(a, b) => pair_node(
+            PairKind::Sub,
+            parts(below(alloc, map, depths, a), below(alloc, map, depths, b)),
+        ),
+        Term::Mul(a, b) => pair_node(
+            PairKind::Mul,
+            parts(below(alloc, map, depths, a), below(alloc, map, depths, b)),
+        ),
+        Term::Concat(a, b) => pair_node(
+            PairKind::Concat,
+            parts(below(alloc, map, depths, a), below(alloc, map, depths, b)),
+        ),
         Term::Flatten(e) => match below(alloc, map, depths, e)? {
             Some(e) => Ok(Some(Term::Flatten(e))),
             None => Ok(None),
@@ -194,21 +177,21 @@ pub fn part<M: VarMap>(
             Some(e) => Ok(Some(Term::Transpose(e))),
             None => Ok(None),
         },
-        Term::TruncL(n, e) => match parts(copy(alloc, n), below(alloc, map, depths, e))? {
-            Some((n, e)) => Ok(Some(Term::TruncL(n, e))),
-            None => Ok(None),
-        },
-        Term::TruncR(n, e) => match parts(copy(alloc, n), below(alloc, map, depths, e))? {
-            Some((n, e)) => Ok(Some(Term::TruncR(n, e))),
-            None => Ok(None),
-        },
-        Term::PadL(n, e) => match parts(copy(alloc, n), below(alloc, map, depths, e))? {
-            Some((n, e)) => Ok(Some(Term::PadL(n, e))),
-            None => Ok(None),
-        },
-        Term::PadR(n, e) => match parts(copy(alloc, n), below(alloc, map, depths, e))? {
-            Some((n, e)) => Ok(Some(Term::PadR(n, e))),
-            None => Ok(None),
-        },
+        Term::TruncL(n, e) => row_node(
+            RowKind::TruncL,
+            parts(copy(alloc, n), below(alloc, map, depths, e)),
+        ),
+        Term::TruncR(n, e) => row_node(
+            RowKind::TruncR,
+            parts(copy(alloc, n), below(alloc, map, depths, e)),
+        ),
+        Term::PadL(n, e) => row_node(
+            RowKind::PadL,
+            parts(copy(alloc, n), below(alloc, map, depths, e)),
+        ),
+        Term::PadR(n, e) => row_node(
+            RowKind::PadR,
+            parts(copy(alloc, n), below(alloc, map, depths, e)),
+        ),
     }
 }
