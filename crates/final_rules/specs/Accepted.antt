@@ -39,7 +39,7 @@ abbrev pub InputsFit : List ℕ → List InputDecl → Type 0
 InputsFit s [] = Unit {0}
 InputsFit s (d ∷ ds) = Numbered s (length_form d.extents) (word_count (extents_at d.extents s)) [] [] × InputsFit s ds
 
--- the printed lengths of the outputs are their numbers of words, and their terms owe nothing
+-- the printed lengths of the outputs are their numbers of words, and their terms stay within bounds
 abbrev pub OutputsFit : Module → List ℕ → List OutputDecl → Type 0
 OutputsFit m s [] = Unit {0}
 OutputsFit m s (o ∷ os) =

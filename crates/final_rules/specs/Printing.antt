@@ -50,7 +50,7 @@ Counts due (Ok k) = due ≡ Ok k
 Counts due (Err (Large k)) = due ≡ Err k
 Counts due (Err Memory) = Unit {0}
 
--- a form is the one that some definition gives, or the limit that is broken there
+-- a form, the limit that is broken on the way to it, or want of memory: never a product of two index variables
 abbrev pub IsDue : Limited Items → Type 0
 IsDue form = (due : Limited Items) × Answers due form
 

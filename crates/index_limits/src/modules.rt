@@ -282,7 +282,8 @@ fn module_indices(alloc: Global, maxima: &[u64], module: &Module) -> Result<u64,
 /// The number, from 1 in the order of the text, of the first printed index that breaks a limit of normal forms or has a magnitude over 2^62:
 /// the lengths of inputs, outputs and scratch, and then, output by output, the place and the length of its fill, bounds, comparisons, places of
 /// fills, of stores and of loads, and the indices of words. A comparison is one, by its form, and a length of scratch is one. Want of memory is
-/// also answered where a path has more than 2,147,483,647 facts, or there are more than 2^64 indices.
+/// also answered where a path has more than 2,147,483,647 facts, or there are more than 2^64 indices;
+/// no memory holds such a module.
 pub fn first_large(alloc: Global, module: &Module) -> Result<Option<u64>, AllocError>
     requires { IsSound «module».now }
     ensures { IfOk result (λ k. large_fault (maxima «module».now) 1 (printed «module».now) ≡ option_map IndexTooLarge k) }

@@ -41,7 +41,7 @@ added c xs = record {
   products = more c.products (counts_of xs).products;
 }
 
--- the answer by the run without a limit: too much work where more steps begin than the limit, else the counts or why it is stuck
+-- the counts that are told: loads and products stop at 2^64 - 1
 abbrev pub counts_told : List Action → Counted
 counts_told xs = record {
   steps = (counts_of xs).steps;
@@ -50,11 +50,13 @@ counts_told xs = record {
   products = min (counts_of xs).products (2 ^ 64 - 1);
 }
 
+-- the counts where the run ends, or why it is stuck
 abbrev pub ended_or_stuck : Outcome → Counted → Result Counted refusal.Stuck
 ended_or_stuck (Ends n) c = Ok c
 ended_or_stuck (Stuck (Outside b i)) c = Err (stuck.Outside b i)
 ended_or_stuck (Stuck (Met Overflow)) c = Err stuck.Overflow
 ended_or_stuck (Stuck (Met NegativeDividend)) c = Err stuck.NegativeDividend
 
+-- the answer by the run without a limit: too much work where more steps begin than the limit, else the counts or why it is stuck
 unfoldable pub decided : ℕ → List Action → Memory → Result Counted refusal.Stuck
 decided limit xs m = if nat_lt limit (counts_of (taken xs m)).steps then Err (stuck.TooMuchWork (limit + 1)) else ended_or_stuck (apply xs m) (counts_told xs)

@@ -31,7 +31,7 @@ abbrev pub AllMade : List Printed → Type 0
 AllMade [] = Unit {0}
 AllMade (i ∷ is) = IsMade i.form × AllMade is
 
--- a form is the one that some definition gives, which breaks no limit
+-- a form is there, or memory did not suffice: no limit is broken on the way to it
 abbrev pub HasForm : Limited Items → Type 0
 HasForm form = (due : Limited Items) × Answers due form × IsMade due
 

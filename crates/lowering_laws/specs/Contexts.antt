@@ -32,7 +32,7 @@ depth p = binders p.place.spot.path
 abbrev pub tree_at : Context → Items → Iexp
 tree_at p x = index_tree (depth p) x
 
--- the same spot at another place
+-- the same context at another place
 abbrev pub placed_at : Place → Context → Context
 placed_at q p = record p { place = q }
 

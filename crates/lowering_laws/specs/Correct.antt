@@ -50,12 +50,13 @@ abbrev pub OutputsShapesFit : Module → List ℕ → List OutputDecl → Type 0
 OutputsShapesFit m s [] = Unit {0}
 OutputsShapesFit m s (o ∷ os) = ShapesFit o.term s (input_extents m s) × OutputsShapesFit m s os
 
--- what an accepted module stays within is what its loops are owed
+-- what the loops of a module are owed at these sizes: bounds that its terms keep, room in the scratch region, and shapes
 pub record IsOwed (m : Module) (s : List ℕ) : Type 0 where
   pub owes : OutputsOwe m s m.outputs
   pub room : OutputsRoom m s m.outputs
   pub shapes : OutputsShapesFit m s m.outputs
 
+-- the loops of an accepted module are owed nothing that is not there, at all allowed sizes
 abbrev pub AcceptedIsOwed : Type 0
 AcceptedIsOwed = (m : Module) (finals : List FinalLine) (marks : List Path) → IsLowerable m finals marks → (s : List ℕ) → Allowed m s → IsOwed m s
 
