@@ -45,9 +45,21 @@ tile_rule t =
     else (if bytes_eq t (codes "split_sum") then Some loop.SplitSum
     else (if bytes_eq t (codes "fuse_gen") then Some loop.FuseGen else None)))
 
+-- a rule of sums of which one turn counts, or of a term under one more gen or sum
+abbrev pub turn_rule : Text → Option LoopRule
+turn_rule t =
+    if bytes_eq t (codes "sum_one") then Some loop.SumOne
+    else (if bytes_eq t (codes "sum_pick") then Some loop.SumPick
+    else (if bytes_eq t (codes "uneta") then Some loop.Uneta
+    else (if bytes_eq t (codes "mul_into_sum") then Some loop.MulIntoSum else None)))
+
+-- one of either
+abbrev pub tile_or_turn_rule : Text → Option LoopRule
+tile_or_turn_rule t = or_else (tile_rule t) (turn_rule t)
+
 -- a rule of gens and sums
 abbrev pub loop_rule : Text → Option LoopRule
-loop_rule t = or_else (gen_rule t) (or_else (sum_rule t) (or_else (add_rule t) (tile_rule t)))
+loop_rule t = or_else (gen_rule t) (or_else (sum_rule t) (or_else (add_rule t) (tile_or_turn_rule t)))
 
 -- the rule of this name, of the families that are built
 abbrev pub rule_named : Text → Option Rule

@@ -77,6 +77,31 @@ fn tile_rule(name: &str) -> Option<LoopRule>
     }
 }
 
+fn turn_rule(name: &str) -> Option<LoopRule>
+    ensures { result ≡ spec.turn_rule name.now }
+{
+    if name == "sum_one" {
+        Some(LoopRule::SumOne)
+    } else if name == "sum_pick" {
+        Some(LoopRule::SumPick)
+    } else if name == "uneta" {
+        Some(LoopRule::Uneta)
+    } else if name == "mul_into_sum" {
+        Some(LoopRule::MulIntoSum)
+    } else {
+        None
+    }
+}
+
+fn tile_or_turn_rule(name: &str) -> Option<LoopRule>
+    ensures { result ≡ spec.tile_or_turn_rule name.now }
+{
+    match tile_rule(name) {
+        Some(rule) => Some(rule),
+        None => turn_rule(name),
+    }
+}
+
 fn loop_rule(name: &str) -> Option<LoopRule>
     ensures { result ≡ spec.loop_rule name.now }
 {
@@ -86,7 +111,7 @@ fn loop_rule(name: &str) -> Option<LoopRule>
             Some(rule) => Some(rule),
             None => match add_rule(name) {
                 Some(rule) => Some(rule),
-                None => tile_rule(name),
+                None => tile_or_turn_rule(name),
             },
         },
     }
