@@ -220,7 +220,7 @@ void atl(int64_t n0, int64_t n1, int64_t n2, const uint64_t *a0, const uint64_t 
 const BY_FOURS: &str =
     "atl 1; size N in 0..100; example N = 3; input A[N]; output B = truncr(4 * ((N + 3) / 4) - N, flatten(gen i < (N + 3) / 4. gen j < 4. guard N - 4 * i - j - 1 >= 0. A[4 * i + j] * 2));";
 
-const BY_FOURS_LINES: &str = "int64_t len_a0(int64_t n0) { return n0; }
+pub const BY_FOURS_LINES: &str = "int64_t len_a0(int64_t n0) { return n0; }
 int64_t len_b0(int64_t n0) { return n0; }
 void atl(int64_t n0, const uint64_t *a0, uint64_t *b0) {
   fill(b0, INT64_C(0), n0);

@@ -1,6 +1,7 @@
 //! Sources under scripts: the texts of last versions, and first faults.
 
 use crate::calls::{compiles, compiles_under, is_refused};
+use crate::lowered::BY_FOURS_LINES;
 use std::alloc::{AllocError, Global};
 use std::test::Fail;
 
@@ -16,6 +17,9 @@ void atl(int64_t n0, const uint64_t *a0, uint64_t *b0) {
   }
 }
 ";
+
+const LONG: &str =
+    "atl 1; size N in 0..100; example N = 3; input A[N]; output B = gen i < N. A[i] * 2;";
 
 // A row of a generation, which is in final form only after beta.
 const REREAD: &str =
@@ -111,6 +115,7 @@ fn steps_lead_to_the_last_version(rt: HostRuntime) -> Result<(), Fail> {
         ),
         (SEVENS, "schedule 1; at 0.0 do beta;", SEVENS_LINES),
         (MATRIX, "schedule 1; at 0 do swap_gen;", SWAPPED_LINES),
+        (LONG, "schedule 1; at 0 do split_gen(4);", BY_FOURS_LINES),
         (
             SCALE,
             "schedule 1; goal 1 by {3: 1}; goal 2 by {4: 1};",
@@ -146,6 +151,11 @@ fn the_first_fault_under_a_script_is_told(rt: HostRuntime) -> Result<(), Fail> {
         (
             REREAD,
             "schedule 1; at 0.0 do beta(1);",
+            "F24 BadArgument step 1\n",
+        ),
+        (
+            SCALE,
+            "schedule 1; at 0 do split_gen(0);",
             "F24 BadArgument step 1\n",
         ),
         (
