@@ -1,15 +1,18 @@
 //! Forms put for variables, all at once, without limits.
 #![tactic(auto, using(crate::proofs::PutLaws::put_laws))]
 
-ghost use Rattle.std.specs.Prelude.{true, ◌≡◌, ◌≤◌, IfOk, IsTrue, map};
+ghost use Rattle.std.specs.Prelude.{true, ◌≡◌, ◌≤◌, ◌<◌, ◌+◌, ◌*◌, ◌^◌, IfOk, IsTrue, map};
+ghost use Rattle.std.specs.Int.RustNames.{unsigned_abs};
 ghost use Rattle.affine_index.specs.Count.{atom_count, terms_count, total};
 ghost use Rattle.affine_index.specs.Every.{terms_every};
 ghost use Rattle.affine_index.specs.Form.{literal_form};
 ghost use Rattle.affine_index.specs.Normal.{atom_good, atom_is_ordered, is_normal, coefficient_fits, items_good, terms_fit};
 ghost use Rattle.affine_index.specs.declared.form.Atom.TheVariants.{Mul};
-ghost use Rattle.affine_index.specs.Product.{product_of_all};
+ghost use Rattle.affine_index.specs.Product.{product_of, product_of_all};
 ghost use Rattle.affine_index.specs.Put.{given, moved, one_given, put_all, put_atom, put_terms};
 ghost use Rattle.affine_index.specs.Puts.{AllNormal, what_put};
+ghost use Rattle.affine_index.specs.Sum.{scaled, sum_of};
+ghost use Rattle.affine_index.specs.Wide.{norm};
 
 use crate::aff::Aff;
 use crate::form::{Atom, Item, Items};
@@ -89,6 +92,25 @@ fn put_atom(alloc: Global, by: &Put, atom: &Atom) -> Result<Wide, AllocError>
     }
 }
 
+/// A product. Ends both factors.
+fn times(alloc: Global, form: Wide, forms: Wide) -> Result<Wide, AllocError>
+    requires room { norm form * norm forms < 2 ^ 127 }
+    requires second { norm forms < 2 ^ 127 }
+    ensures { IfOk result (λ product. product ≡ product_of form forms) }
+{
+    product(alloc, &form, &forms)
+}
+
+/// A sum with a multiple of a form.
+fn plus(alloc: Global, total: Wide, coefficient: i64, form: Wide) -> Result<Wide, AllocError>
+    requires product { unsigned_abs coefficient * norm form < 2 ^ 127 }
+    requires room { norm total + norm (scaled coefficient form) < 2 ^ 127 }
+    ensures { IfOk result (λ sum. sum ≡ sum_of total (scaled coefficient form)) }
+{
+    let product = scaled(alloc, i128::from(coefficient), form)?;
+    sum(alloc, total, product)
+}
+
 #[cycle(put)]
 fn put_factors(alloc: Global, by: &Put, factors: &[Atom]) -> Result<Wide, AllocError>
     requires normal { AllNormal by.now }
@@ -101,7 +123,7 @@ fn put_factors(alloc: Global, by: &Put, factors: &[Atom]) -> Result<Wide, AllocE
     while left > 0 {
         left -= 1;
         let form = put_atom(alloc, by, &factors[left])?;
-        forms = product(alloc, &form, &forms)?;
+        forms = times(alloc, form, forms)?;
     }
     Ok(forms)
 }
@@ -123,8 +145,7 @@ fn put_terms(
     let mut total = Wide::new(WideTerms::new(alloc), i128::from(constant));
     for term in terms {
         let form = put_atom(alloc, by, &term.atom)?;
-        let product = scaled(alloc, i128::from(term.coefficient), form)?;
-        total = sum(alloc, total, product)?;
+        total = plus(alloc, total, term.coefficient, form)?;
     }
     Ok(total)
 }

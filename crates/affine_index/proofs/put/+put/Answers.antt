@@ -58,8 +58,8 @@ put_factors-put_atom-requires t c =
       ),
     )
 
-pub put_factors-product-requires : goal.put_factors-product-requires
-put_factors-product-requires t c =
+pub put_factors-times-requires : goal.put_factors-times-requires
+put_factors-times-requires t c =
     let fs = c.args.factors.now in
     let f = what_put c.args.by.now in
     let at = c.loop-left.left - 1 in
@@ -118,30 +118,31 @@ put_terms-put_atom-requires t c =
     c.requires.short in
     (search (rules, the_lemmas), (c.requires.normal, (facts.ordered, facts.short)))
 
-pub put_terms-scaled-requires : goal.put_terms-scaled-requires
-put_terms-scaled-requires t c =
-    let item = c.term-item.result in
-    let facts = item_facts c.args.terms.now c.loop-term.term-index item c.loop-term-test.true c.term-item.is c.requires.ordered c.requires.fits c.requires.short
-    in
-    let wide : SFits w128 c.from-in-loop-term.result = search rules in
-    let word : SFits w64 item.coefficient = search rules in
-    let z = to_z-of_z w128 c.from-in-loop-term.result wide ∙ c.from-in-loop-term.ensures ∙ to_z-of_z w64 item.coefficient word in
-    let fits : ℤ → Type 0 = λ x. unsigned_abs x * norm c.in_ok-form.form < 2 ^ 127 in
-    subst fits (sym z) (scaled-fits (what_put c.args.by.now) c.requires.normal item c.in_ok-form.form facts (c.in_ok-form.ensures {u = tt}))
-
-pub put_terms-sum-requires : goal.put_terms-sum-requires
-put_terms-sum-requires t c =
+pub put_terms-plus-requires : goal.put_terms-plus-requires
+put_terms-plus-requires t c =
     let f = what_put c.args.by.now in
     let ts = c.args.terms.now in
     let at = c.loop-term.term-index in
     let item = c.term-item.result in
     let facts = item_facts ts at item c.loop-term-test.true c.term-item.is c.requires.ordered c.requires.fits c.requires.short in
-    let wide : SFits w128 c.from-in-loop-term.result = search rules in
     let word : SFits w64 item.coefficient = search rules in
-    let z = to_z-of_z w128 c.from-in-loop-term.result wide ∙ c.from-in-loop-term.ensures ∙ to_z-of_z w64 item.coefficient word in
-    let p : c.in_ok-product.product ≡ scaled item.coefficient (put_atom f item.atom) =
-    c.in_ok-product.ensures {u = tt} ∙ (λ k. scaled (z k) (c.in_ok-form.ensures {u = tt} k)) in
-    omega (arith, ap norm p, room-next f c.requires.normal ts at item c.loop-term-test.true c.term-item.is facts, c.loop-term.invariant.room, c.requires.short)
+    let z = to_z-of_z w64 item.coefficient word in
+    let fits : ℤ → Type 0 = λ x. unsigned_abs x * norm c.in_ok-form.form < 2 ^ 127 in
+    let p : scaled item.coefficient c.in_ok-form.form ≡ scaled item.coefficient (put_atom f item.atom) =
+    ap (scaled item.coefficient) (c.in_ok-form.ensures {u = tt}) in
+    let few : norm c.loop-term.total + norm (scaled item.coefficient c.in_ok-form.form) < 2 ^ 127 =
+    omega (
+      arith,
+      ap norm p,
+      room-next f c.requires.normal ts at item c.loop-term-test.true c.term-item.is facts,
+      c.loop-term.invariant.room,
+      c.requires.short,
+    ) in
+    let roomy : ℤ → Type 0 = λ x. norm c.loop-term.total + norm (scaled x c.in_ok-form.form) < 2 ^ 127 in
+    record {
+      product = subst fits (sym z) (scaled-fits f c.requires.normal item c.in_ok-form.form facts (c.in_ok-form.ensures {u = tt}));
+      room = subst roomy (sym z) few;
+    }
 
 pub put_terms-loop-term-preserved : goal.put_terms-loop-term-preserved
 put_terms-loop-term-preserved t c =
@@ -150,13 +151,10 @@ put_terms-loop-term-preserved t c =
     let at = c.loop-term.term-index in
     let item = c.term-item.result in
     let facts = item_facts ts at item c.loop-term-test.true c.term-item.is c.requires.ordered c.requires.fits c.requires.short in
-    let wide : SFits w128 c.from-in-loop-term.result = search rules in
     let word : SFits w64 item.coefficient = search rules in
-    let z = to_z-of_z w128 c.from-in-loop-term.result wide ∙ c.from-in-loop-term.ensures ∙ to_z-of_z w64 item.coefficient word in
-    let p : c.in_ok-product.product ≡ scaled item.coefficient (put_atom f item.atom) =
-    c.in_ok-product.ensures {u = tt} ∙ (λ k. scaled (z k) (c.in_ok-form.ensures {u = tt} k)) in
+    let z = to_z-of_z w64 item.coefficient word in
     let s : c.in_ok-total.total ≡ sum_of c.loop-term.total (scaled item.coefficient (put_atom f item.atom)) =
-    c.in_ok-total.ensures {u = tt} ∙ ap (sum_of c.loop-term.total) p in
+    c.in_ok-total.ensures {u = tt} ∙ (λ k. sum_of c.loop-term.total (scaled (z k) (c.in_ok-form.ensures {u = tt} k))) in
     record {
       room = omega (
         arith,
