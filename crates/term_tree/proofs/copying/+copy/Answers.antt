@@ -60,4 +60,5 @@ copied-returns-in-Mul t c =
 
 pub copied-returns-in-Concat : goal.copied-returns-in-Concat
 copied-returns-in-Concat t c =
-    subst (λ (v : Term). IfOk c.pair-in-Concat.result (λ copy. copy ≡ v)) (sym c.in-Concat.is) (c.pair-in-Concat.ensures c.in-Concat.left c.boxed-in-Concat.ensures)
+    subst (λ (v : Term). IfOk c.pair-in-Concat.result (λ copy. copy ≡ v)) (sym c.in-Concat.is)
+    (c.pair-in-Concat.ensures c.in-Concat.left c.boxed-in-Concat.ensures)

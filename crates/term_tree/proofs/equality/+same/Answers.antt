@@ -62,80 +62,100 @@ same-returns-in_default-b-18 t c = differ c.args.a.now c.args.b.now (λ s. c.in_
 
 pub same-returns-in-Index-b : goal.same-returns-in-Index-b
 same-returns-in-Index-b t c =
-    both-Index c.args.a.now c.args.b.now c.and_same.result c.same-in-Index-b.result c.in-Index.x c.in-Index-b.y c.in-Index.d c.in-Index-b.e c.get.result.now c.get-in-Index-b.result.now
+    both-Index c.args.a.now c.args.b.now c.and_same.result c.same-in-Index-b.result c.in-Index.x c.in-Index-b.y c.in-Index.d c.in-Index-b.e
+    c.get.result.now c.get-in-Index-b.result.now
     c.get.ensures c.get-in-Index-b.ensures c.in-Index.is c.in-Index-b.is c.same-in-Index-b.ensures c.and_same.ensures
 
 pub same-returns-in-Guard-b : goal.same-returns-in-Guard-b
 same-returns-in-Guard-b t c =
-    both-Guard c.args.a.now c.args.b.now c.and_same-in-Guard-b.result c.same_cond.result c.in-Guard.x c.in-Guard-b.y c.in-Guard.d c.in-Guard-b.e c.get-in-Guard-b.result.now c.get-in-Guard-b-2.result.now
+    both-Guard c.args.a.now c.args.b.now c.and_same-in-Guard-b.result c.same_cond.result c.in-Guard.x c.in-Guard-b.y c.in-Guard.d c.in-Guard-b.e
+    c.get-in-Guard-b.result.now c.get-in-Guard-b-2.result.now
     c.get-in-Guard-b.ensures c.get-in-Guard-b-2.ensures c.in-Guard.is c.in-Guard-b.is c.same_cond.ensures c.and_same-in-Guard-b.ensures
 
 pub same-returns-in-Gen-b : goal.same-returns-in-Gen-b
 same-returns-in-Gen-b t c =
-    both-Gen c.args.a.now c.args.b.now c.and_same-in-Gen-b.result c.same-in-Gen-b.result c.in-Gen.x c.in-Gen-b.y c.in-Gen.d c.in-Gen-b.e c.get-in-Gen-b.result.now c.get-in-Gen-b-2.result.now
+    both-Gen c.args.a.now c.args.b.now c.and_same-in-Gen-b.result c.same-in-Gen-b.result c.in-Gen.x c.in-Gen-b.y c.in-Gen.d c.in-Gen-b.e
+    c.get-in-Gen-b.result.now c.get-in-Gen-b-2.result.now
     c.get-in-Gen-b.ensures c.get-in-Gen-b-2.ensures c.in-Gen.is c.in-Gen-b.is c.same-in-Gen-b.ensures c.and_same-in-Gen-b.ensures
 
 pub same-returns-in-Sum-b : goal.same-returns-in-Sum-b
 same-returns-in-Sum-b t c =
-    both-Sum c.args.a.now c.args.b.now c.and_same-in-Sum-b.result c.same-in-Sum-b.result c.in-Sum.x c.in-Sum-b.y c.in-Sum.d c.in-Sum-b.e c.get-in-Sum-b.result.now c.get-in-Sum-b-2.result.now
+    both-Sum c.args.a.now c.args.b.now c.and_same-in-Sum-b.result c.same-in-Sum-b.result c.in-Sum.x c.in-Sum-b.y c.in-Sum.d c.in-Sum-b.e
+    c.get-in-Sum-b.result.now c.get-in-Sum-b-2.result.now
     c.get-in-Sum-b.ensures c.get-in-Sum-b-2.ensures c.in-Sum.is c.in-Sum-b.is c.same-in-Sum-b.ensures c.and_same-in-Sum-b.ensures
 
 pub same-returns-in-TruncL-b : goal.same-returns-in-TruncL-b
 same-returns-in-TruncL-b t c =
-    both-TruncL c.args.a.now c.args.b.now c.and_same-in-TruncL-b.result c.same-in-TruncL-b.result c.in-TruncL.x c.in-TruncL-b.y c.in-TruncL.d c.in-TruncL-b.e c.get-in-TruncL-b.result.now c.get-in-TruncL-b-2.result.now
+    both-TruncL c.args.a.now c.args.b.now c.and_same-in-TruncL-b.result c.same-in-TruncL-b.result c.in-TruncL.x c.in-TruncL-b.y c.in-TruncL.d
+    c.in-TruncL-b.e c.get-in-TruncL-b.result.now c.get-in-TruncL-b-2.result.now
     c.get-in-TruncL-b.ensures c.get-in-TruncL-b-2.ensures c.in-TruncL.is c.in-TruncL-b.is c.same-in-TruncL-b.ensures c.and_same-in-TruncL-b.ensures
 
 pub same-returns-in-TruncR-b : goal.same-returns-in-TruncR-b
 same-returns-in-TruncR-b t c =
-    both-TruncR c.args.a.now c.args.b.now c.and_same-in-TruncR-b.result c.same-in-TruncR-b.result c.in-TruncR.x c.in-TruncR-b.y c.in-TruncR.d c.in-TruncR-b.e c.get-in-TruncR-b.result.now c.get-in-TruncR-b-2.result.now
+    both-TruncR c.args.a.now c.args.b.now c.and_same-in-TruncR-b.result c.same-in-TruncR-b.result c.in-TruncR.x c.in-TruncR-b.y c.in-TruncR.d
+    c.in-TruncR-b.e c.get-in-TruncR-b.result.now c.get-in-TruncR-b-2.result.now
     c.get-in-TruncR-b.ensures c.get-in-TruncR-b-2.ensures c.in-TruncR.is c.in-TruncR-b.is c.same-in-TruncR-b.ensures c.and_same-in-TruncR-b.ensures
 
 pub same-returns-in-PadL-b : goal.same-returns-in-PadL-b
 same-returns-in-PadL-b t c =
-    both-PadL c.args.a.now c.args.b.now c.and_same-in-PadL-b.result c.same-in-PadL-b.result c.in-PadL.x c.in-PadL-b.y c.in-PadL.d c.in-PadL-b.e c.get-in-PadL-b.result.now c.get-in-PadL-b-2.result.now
+    both-PadL c.args.a.now c.args.b.now c.and_same-in-PadL-b.result c.same-in-PadL-b.result c.in-PadL.x c.in-PadL-b.y c.in-PadL.d c.in-PadL-b.e
+    c.get-in-PadL-b.result.now c.get-in-PadL-b-2.result.now
     c.get-in-PadL-b.ensures c.get-in-PadL-b-2.ensures c.in-PadL.is c.in-PadL-b.is c.same-in-PadL-b.ensures c.and_same-in-PadL-b.ensures
 
 pub same-returns-in-PadR-b : goal.same-returns-in-PadR-b
 same-returns-in-PadR-b t c =
-    both-PadR c.args.a.now c.args.b.now c.and_same-in-PadR-b.result c.same-in-PadR-b.result c.in-PadR.x c.in-PadR-b.y c.in-PadR.d c.in-PadR-b.e c.get-in-PadR-b.result.now c.get-in-PadR-b-2.result.now
+    both-PadR c.args.a.now c.args.b.now c.and_same-in-PadR-b.result c.same-in-PadR-b.result c.in-PadR.x c.in-PadR-b.y c.in-PadR.d c.in-PadR-b.e
+    c.get-in-PadR-b.result.now c.get-in-PadR-b-2.result.now
     c.get-in-PadR-b.ensures c.get-in-PadR-b-2.ensures c.in-PadR.is c.in-PadR-b.is c.same-in-PadR-b.ensures c.and_same-in-PadR-b.ensures
 
 pub same-returns-in-Let-b : goal.same-returns-in-Let-b
 same-returns-in-Let-b t c =
-    both-Let c.args.a.now c.args.b.now c.and_same-in-Let-b.result c.same-in-Let-b.result c.in-Let.c c.in-Let-b.e c.in-Let.d c.in-Let-b.f c.get-in-Let-b.result.now c.get-in-Let-b-2.result.now
-    c.get-in-Let-b-3.result.now c.get-in-Let-b-4.result.now c.get-in-Let-b.ensures c.get-in-Let-b-2.ensures c.get-in-Let-b-3.ensures c.get-in-Let-b-4.ensures c.in-Let.is c.in-Let-b.is
+    both-Let c.args.a.now c.args.b.now c.and_same-in-Let-b.result c.same-in-Let-b.result c.in-Let.c c.in-Let-b.e c.in-Let.d c.in-Let-b.f
+    c.get-in-Let-b.result.now c.get-in-Let-b-2.result.now
+    c.get-in-Let-b-3.result.now c.get-in-Let-b-4.result.now c.get-in-Let-b.ensures c.get-in-Let-b-2.ensures c.get-in-Let-b-3.ensures
+    c.get-in-Let-b-4.ensures c.in-Let.is c.in-Let-b.is
     c.same-in-Let-b.ensures c.and_same-in-Let-b.ensures
 
 pub same-returns-in-Add-b : goal.same-returns-in-Add-b
 same-returns-in-Add-b t c =
-    both-Add c.args.a.now c.args.b.now c.and_same-in-Add-b.result c.same-in-Add-b.result c.in-Add.c c.in-Add-b.e c.in-Add.d c.in-Add-b.f c.get-in-Add-b.result.now c.get-in-Add-b-2.result.now
-    c.get-in-Add-b-3.result.now c.get-in-Add-b-4.result.now c.get-in-Add-b.ensures c.get-in-Add-b-2.ensures c.get-in-Add-b-3.ensures c.get-in-Add-b-4.ensures c.in-Add.is c.in-Add-b.is
+    both-Add c.args.a.now c.args.b.now c.and_same-in-Add-b.result c.same-in-Add-b.result c.in-Add.c c.in-Add-b.e c.in-Add.d c.in-Add-b.f
+    c.get-in-Add-b.result.now c.get-in-Add-b-2.result.now
+    c.get-in-Add-b-3.result.now c.get-in-Add-b-4.result.now c.get-in-Add-b.ensures c.get-in-Add-b-2.ensures c.get-in-Add-b-3.ensures
+    c.get-in-Add-b-4.ensures c.in-Add.is c.in-Add-b.is
     c.same-in-Add-b.ensures c.and_same-in-Add-b.ensures
 
 pub same-returns-in-Sub-b : goal.same-returns-in-Sub-b
 same-returns-in-Sub-b t c =
-    both-Sub c.args.a.now c.args.b.now c.and_same-in-Sub-b.result c.same-in-Sub-b.result c.in-Sub.c c.in-Sub-b.e c.in-Sub.d c.in-Sub-b.f c.get-in-Sub-b.result.now c.get-in-Sub-b-2.result.now
-    c.get-in-Sub-b-3.result.now c.get-in-Sub-b-4.result.now c.get-in-Sub-b.ensures c.get-in-Sub-b-2.ensures c.get-in-Sub-b-3.ensures c.get-in-Sub-b-4.ensures c.in-Sub.is c.in-Sub-b.is
+    both-Sub c.args.a.now c.args.b.now c.and_same-in-Sub-b.result c.same-in-Sub-b.result c.in-Sub.c c.in-Sub-b.e c.in-Sub.d c.in-Sub-b.f
+    c.get-in-Sub-b.result.now c.get-in-Sub-b-2.result.now
+    c.get-in-Sub-b-3.result.now c.get-in-Sub-b-4.result.now c.get-in-Sub-b.ensures c.get-in-Sub-b-2.ensures c.get-in-Sub-b-3.ensures
+    c.get-in-Sub-b-4.ensures c.in-Sub.is c.in-Sub-b.is
     c.same-in-Sub-b.ensures c.and_same-in-Sub-b.ensures
 
 pub same-returns-in-Mul-b : goal.same-returns-in-Mul-b
 same-returns-in-Mul-b t c =
-    both-Mul c.args.a.now c.args.b.now c.and_same-in-Mul-b.result c.same-in-Mul-b.result c.in-Mul.c c.in-Mul-b.e c.in-Mul.d c.in-Mul-b.f c.get-in-Mul-b.result.now c.get-in-Mul-b-2.result.now
-    c.get-in-Mul-b-3.result.now c.get-in-Mul-b-4.result.now c.get-in-Mul-b.ensures c.get-in-Mul-b-2.ensures c.get-in-Mul-b-3.ensures c.get-in-Mul-b-4.ensures c.in-Mul.is c.in-Mul-b.is
+    both-Mul c.args.a.now c.args.b.now c.and_same-in-Mul-b.result c.same-in-Mul-b.result c.in-Mul.c c.in-Mul-b.e c.in-Mul.d c.in-Mul-b.f
+    c.get-in-Mul-b.result.now c.get-in-Mul-b-2.result.now
+    c.get-in-Mul-b-3.result.now c.get-in-Mul-b-4.result.now c.get-in-Mul-b.ensures c.get-in-Mul-b-2.ensures c.get-in-Mul-b-3.ensures
+    c.get-in-Mul-b-4.ensures c.in-Mul.is c.in-Mul-b.is
     c.same-in-Mul-b.ensures c.and_same-in-Mul-b.ensures
 
 pub same-returns-in-Concat-b : goal.same-returns-in-Concat-b
 same-returns-in-Concat-b t c =
-    both-Concat c.args.a.now c.args.b.now c.and_same-in-Concat-b.result c.same-in-Concat-b.result c.in-Concat.c c.in-Concat-b.e c.in-Concat.d c.in-Concat-b.f c.get-in-Concat-b.result.now c.get-in-Concat-b-2.result.now
-    c.get-in-Concat-b-3.result.now c.get-in-Concat-b-4.result.now c.get-in-Concat-b.ensures c.get-in-Concat-b-2.ensures c.get-in-Concat-b-3.ensures c.get-in-Concat-b-4.ensures c.in-Concat.is c.in-Concat-b.is
+    both-Concat c.args.a.now c.args.b.now c.and_same-in-Concat-b.result c.same-in-Concat-b.result c.in-Concat.c c.in-Concat-b.e c.in-Concat.d
+    c.in-Concat-b.f c.get-in-Concat-b.result.now c.get-in-Concat-b-2.result.now
+    c.get-in-Concat-b-3.result.now c.get-in-Concat-b-4.result.now c.get-in-Concat-b.ensures c.get-in-Concat-b-2.ensures c.get-in-Concat-b-3.ensures
+    c.get-in-Concat-b-4.ensures c.in-Concat.is c.in-Concat-b.is
     c.same-in-Concat-b.ensures c.and_same-in-Concat-b.ensures
 
 pub same-returns-in-Flatten-b : goal.same-returns-in-Flatten-b
 same-returns-in-Flatten-b t c =
-    both-Flatten c.args.a.now c.args.b.now c.same-in-Flatten-b.result c.same-in-Flatten-b.result c.in-Flatten.d c.in-Flatten-b.e c.get-in-Flatten-b.result.now c.get-in-Flatten-b-2.result.now
+    both-Flatten c.args.a.now c.args.b.now c.same-in-Flatten-b.result c.same-in-Flatten-b.result c.in-Flatten.d c.in-Flatten-b.e
+    c.get-in-Flatten-b.result.now c.get-in-Flatten-b-2.result.now
     c.get-in-Flatten-b.ensures c.get-in-Flatten-b-2.ensures c.in-Flatten.is c.in-Flatten-b.is c.same-in-Flatten-b.ensures
 
 pub same-returns-in-Transpose-b : goal.same-returns-in-Transpose-b
 same-returns-in-Transpose-b t c =
-    both-Transpose c.args.a.now c.args.b.now c.same-in-Transpose-b.result c.same-in-Transpose-b.result c.in-Transpose.d c.in-Transpose-b.e c.get-in-Transpose-b.result.now c.get-in-Transpose-b-2.result.now
+    both-Transpose c.args.a.now c.args.b.now c.same-in-Transpose-b.result c.same-in-Transpose-b.result c.in-Transpose.d c.in-Transpose-b.e
+    c.get-in-Transpose-b.result.now c.get-in-Transpose-b-2.result.now
     c.get-in-Transpose-b.ensures c.get-in-Transpose-b-2.ensures c.in-Transpose.is c.in-Transpose-b.is c.same-in-Transpose-b.ensures
