@@ -1,13 +1,14 @@
 //! The tree that a normal form prints as.
 #![tactic(auto, using(crate::proofs::TreeLaws::tree_laws))]
 
-ghost use Rattle.std.specs.Prelude.{◌≡◌, ℕ, true, IfOk, IsTrue, None, ◌&&◌, pos};
+ghost use Rattle.std.specs.Prelude.{◌≡◌, ℕ, true, IfOk, IsTrue, Option, None, ◌&&◌, pos};
 ghost use Rattle.std.specs.Int.RustNames.{unsigned_abs};
 ghost use Rattle.index_trees.specs.Tree.{atom_fits, atoms_fit, form_fits, index_tree, item_tree, joined_atom, joined_atoms, leading, minus_constant, minus_item, minus_terms, number_fits, or_number, plus_constant, plus_item, plus_terms, terms_fit, tree_after, with_factor, with_summand};
 ghost use Rattle.index_trees.specs.Value.{Computes, ComputesSum};
 
 use affine_index::{Aff, Atom, Item, Items};
 use loop_lang::Iexp;
+use owned_values::two;
 use sqlite_items::Boxed;
 use std::alloc::{AllocError, Global};
 
@@ -21,8 +22,7 @@ fn with_factor(
     match product {
         None => Ok(Some(factor)),
         Some(left) => {
-            let left = Boxed::new(alloc, left)?;
-            let right = Boxed::new(alloc, factor)?;
+            let (left, right) = two(Boxed::new(alloc, left), Boxed::new(alloc, factor))?;
             Ok(Some(Iexp::Mul(left, right)))
         }
     }
@@ -34,8 +34,7 @@ fn with_summand(alloc: Global, sum: Option<Iexp>, item: Iexp) -> Result<Option<I
     match sum {
         None => Ok(Some(item)),
         Some(left) => {
-            let left = Boxed::new(alloc, left)?;
-            let right = Boxed::new(alloc, item)?;
+            let (left, right) = two(Boxed::new(alloc, left), Boxed::new(alloc, item))?;
             Ok(Some(Iexp::Add(left, right)))
         }
     }
@@ -44,8 +43,7 @@ fn with_summand(alloc: Global, sum: Option<Iexp>, item: Iexp) -> Result<Option<I
 fn minus(alloc: Global, left: Iexp, right: Iexp) -> Result<Iexp, AllocError>
     ensures { IfOk result (λ r. r ≡ Iexp.Sub left right) }
 {
-    let left = Boxed::new(alloc, left)?;
-    let right = Boxed::new(alloc, right)?;
+    let (left, right) = two(Boxed::new(alloc, left), Boxed::new(alloc, right))?;
     Ok(Iexp::Sub(left, right))
 }
 
@@ -70,6 +68,53 @@ fn leading(coefficient: i64) -> Option<Iexp>
     }
 }
 
+fn boxed(alloc: Global, tree: Result<Iexp, AllocError>) -> Result<Boxed<Iexp>, AllocError>
+    ensures { (t : Iexp) → IfOk tree (λ r. r ≡ t) → IfOk result (λ r. r ≡ t) }
+{
+    Boxed::new(alloc, tree?)
+}
+
+/// A product with a quotient of what a form prints as.
+fn with_quotient(
+    alloc: Global,
+    product: Option<Iexp>,
+    dividend: Result<Iexp, AllocError>,
+    divisor: u32,
+) -> Result<Option<Iexp>, AllocError>
+    ensures { (d : Iexp) → IfOk dividend (λ t. t ≡ d) → IfOk result (λ r. r ≡ with_factor product (Iexp.Div d divisor)) }
+{
+    let dividend = boxed(alloc, dividend)?;
+    with_factor(alloc, product, Iexp::Div(dividend, u64::from(divisor)))
+}
+
+/// The product, or 1 where there is none.
+fn or_one(product: Result<Option<Iexp>, AllocError>) -> Result<Iexp, AllocError>
+    ensures { (p : Option Iexp) → IfOk product (λ q. q ≡ p) → IfOk result (λ r. r ≡ or_number (pos 1) p) }
+{
+    match product? {
+        Some(tree) => Ok(tree),
+        None => Ok(Iexp::Lit(1)),
+    }
+}
+
+/// A sum with what an item prints as.
+fn plus_tree(
+    alloc: Global,
+    sum: Option<Iexp>,
+    item: Result<Iexp, AllocError>,
+) -> Result<Option<Iexp>, AllocError>
+    ensures { (i : Iexp) → IfOk item (λ t. t ≡ i) → IfOk result (λ r. r ≡ with_summand sum i) }
+{
+    with_summand(alloc, sum, item?)
+}
+
+/// A tree less what an item prints as.
+fn minus_tree(alloc: Global, left: Iexp, item: Result<Iexp, AllocError>) -> Result<Iexp, AllocError>
+    ensures { (i : Iexp) → IfOk item (λ t. t ≡ i) → IfOk result (λ r. r ≡ Iexp.Sub left i) }
+{
+    minus(alloc, left, item?)
+}
+
 #[cycle(tree)]
 fn joined_atom(
     alloc: Global,
@@ -86,11 +131,12 @@ fn joined_atom(
             let depth = loops.saturating_sub(1).saturating_sub(*var);
             with_factor(alloc, product, Iexp::Loop(depth))
         }
-        Atom::Div(form, divisor) => {
-            let dividend = form_tree(alloc, loops, form.get())?;
-            let dividend = Boxed::new(alloc, dividend)?;
-            with_factor(alloc, product, Iexp::Div(dividend, u64::from(*divisor)))
-        }
+        Atom::Div(form, divisor) => with_quotient(
+            alloc,
+            product,
+            form_tree(alloc, loops, form.get()),
+            *divisor,
+        ),
         Atom::Mul(factors) => joined_atoms(alloc, loops, product, factors.as_slice()),
     }
 }
@@ -117,11 +163,7 @@ fn item_tree(alloc: Global, loops: u32, coefficient: i64, atom: &Atom) -> Result
     requires { IsTrue (number_fits coefficient && atom_fits atom.now) }
     ensures { IfOk result (λ r. r ≡ item_tree coefficient (joined_atom loops atom.now)) }
 {
-    let first = leading(coefficient);
-    match joined_atom(alloc, loops, first, atom)? {
-        Some(tree) => Ok(tree),
-        None => Ok(Iexp::Lit(1)),
-    }
+    or_one(joined_atom(alloc, loops, leading(coefficient), atom))
 }
 
 #[cycle(tree)]
@@ -136,8 +178,7 @@ fn plus_item(
     ensures { IfOk result (λ r. r ≡ plus_item coefficient (joined_atom loops atom.now) sum) }
 {
     if coefficient > 0 {
-        let tree = item_tree(alloc, loops, coefficient, atom)?;
-        with_summand(alloc, sum, tree)
+        plus_tree(alloc, sum, item_tree(alloc, loops, coefficient, atom))
     } else {
         Ok(sum)
     }
@@ -172,8 +213,7 @@ fn minus_item(
     ensures { IfOk result (λ r. r ≡ minus_item coefficient (joined_atom loops atom.now) left) }
 {
     if coefficient < 0 {
-        let right = item_tree(alloc, loops, coefficient, atom)?;
-        minus(alloc, left, right)
+        minus_tree(alloc, left, item_tree(alloc, loops, coefficient, atom))
     } else {
         Ok(left)
     }

@@ -1,10 +1,12 @@
-use Rattle.std.proofs.Common.{◌≡◌, ◌+◌, ◌∙◌, ap, drop, subst, sym, rules, true}
+use Rattle.std.proofs.Common.{◌≡◌, ◌+◌, ◌∙◌, ap, drop, subst, sym, rules, Bool, true, IfOk}
+use Rattle.std.specs.Prelude.{if◌then◌else◌}
 use Rattle.std.proofs.lemmas.Bool.{and_parts}
 use Rattle.std.proofs.lemmas.Int.{to_z-of_z}
 use mir.Val.{SFits}
 use mir.Syntax.{w64}
 use Rattle.affine_index.specs.declared.form.Atom.TheViews.{the_lemmas}
-use Rattle.index_trees.specs.Tree.{terms_fit, number_fits, plus_terms, minus_terms}
+use Rattle.affine_index.specs.Printed.{is_positive}
+use Rattle.index_trees.specs.Tree.{terms_fit, number_fits, item_tree, joined_atom, plus_terms, minus_terms, with_summand}
 use Rattle.index_trees.proofs.TreeLaws.{fits-items, fits-Mul, rest_is, rest_fits}
 use Rattle.index_trees.proofs.tree.+tree.Goals as goal
 
@@ -66,3 +68,11 @@ minus_terms-loop-term-preserved t c =
           ∙ ap (λ us. minus_terms c.args.loops us c.loop-term.tree) (sym e)
           ∙ c.loop-term.invariant.rest;
     }
+
+pub plus_item-returns-then-coefficient-gt0 : goal.plus_item-returns-then-coefficient-gt0
+plus_item-returns-then-coefficient-gt0 t c =
+    let item = item_tree c.args.coefficient (joined_atom c.args.loops c.args.atom.now) in
+    let f : SFits w64 c.args.coefficient = search rules in
+    let positive : is_positive c.args.coefficient ≡ true = search rules in
+    subst (λ (b : Bool). IfOk c.plus_tree.result (λ r. r ≡ (if b then with_summand c.args.sum item else c.args.sum))) (sym positive)
+    (c.plus_tree.ensures item (rw (to_z-of_z w64 c.args.coefficient f) at c.item_tree.ensures))
