@@ -1,0 +1,7 @@
+use Rattle.std.proofs.Common.{◌≡◌, subst, IfOk}
+use Rattle.term_tree.specs.declared.term.Term.{Term}
+use Rattle.term_tree.proofs.Forms.{Guard-is}
+use Rattle.rule_parts.proofs.build.guard.Goals as goal
+
+pub returns : goal.returns
+returns c = subst (λ (t : Term). IfOk c.boxed.result (λ e. e ≡ t)) (Guard-is c.args.cond c.args.body) c.boxed.ensures
