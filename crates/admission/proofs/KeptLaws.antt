@@ -15,7 +15,7 @@ use Rattle.shape_rules.specs.Admitted.{AllShown}
 use Rattle.term_tree.specs.Modules.{Allowed, IsWithin}
 use Rattle.term_tree.specs.declared.term.Module.{Module}
 use Rattle.term_tree.specs.declared.term.SizeDecl.{SizeDecl}
-use Rattle.admission.specs.Admission.{assume_holds, first_false, is_held, is_shown_alone, kept, shown_alone, within}
+use Rattle.admission.specs.Admission.{assume_holds, broken, first_false, is_held, is_shown_alone, shown_alone, within}
 
 -- all hold where none is the first that does not
 none_false : (n : ℕ) (b : Bool) (bs : List Bool) → first_false n (b ∷ bs) ≡ None → (b ≡ true) × (first_false (suc n) bs ≡ None)
@@ -89,15 +89,15 @@ assumes_hold n s (c ∷ cs) h =
     and_from (cmp_holds s [] c) (all_hold s [] cs) (held s c (limited_value s [] (cmp_form c)) (value-agrees s [] (cmp_form c)) p.0)
     (assumes_hold (suc n) s cs p.1)
 
--- an example that keeps each constraint is allowed
-pub example_allowed : (m : Module) → length m.example ≡ length m.sizes → first_false 1 (kept m) ≡ None → Allowed m m.example
-example_allowed m e h =
-    let bs = within m.sizes m.example in
-    let cs = map (assume_holds m.example) m.assumes in
+-- sizes that keep each constraint are allowed
+pub sizes_allowed : (m : Module) (sizes : List ℕ) → length sizes ≡ length m.sizes → broken m sizes ≡ None → Allowed m sizes
+sizes_allowed m sizes e h =
+    let bs = within m.sizes sizes in
+    let cs = map (assume_holds sizes) m.assumes in
     let front : first_false 1 bs ≡ None = none_in_front 1 bs cs h in
     record {
-      within = within_bounds 1 m.sizes m.example (sym e) front;
-      assumed = assumes_hold (1 + length bs) m.example m.assumes (sym (first_behind 1 bs cs front) ∙ h);
+      within = within_bounds 1 m.sizes sizes (sym e) front;
+      assumed = assumes_hold (1 + length bs) sizes m.assumes (sym (first_behind 1 bs cs front) ∙ h);
     }
   where
     none_in_front : (n : ℕ) (bs cs : List Bool) → first_false n (bs ++ cs) ≡ None → first_false n bs ≡ None

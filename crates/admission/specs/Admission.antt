@@ -85,9 +85,13 @@ is_held (Some b) = b
 abbrev pub assume_holds : List ℕ → Cmp → Bool
 assume_holds sizes c = is_held (cmp_limited sizes [] c)
 
--- for each constraint of the sizes, bounds and then assumes, whether the example keeps it
-abbrev pub kept : Module → List Bool
-kept m = within m.sizes m.example ++ map (assume_holds m.example) m.assumes
+-- for each constraint of the sizes, bounds and then assumes, whether these sizes keep it
+abbrev pub kept : Module → List ℕ → List Bool
+kept m sizes = within m.sizes sizes ++ map (assume_holds sizes) m.assumes
+
+-- the first constraint that these sizes break, counted from 1
+abbrev pub broken : Module → List ℕ → Option ℕ
+broken m sizes = first_false 1 (kept m sizes)
 
 -- the first of these goals that default lines do not show, counted from 1
 abbrev pub unshown : Module → List Items → Option AdmissionFault
@@ -95,7 +99,7 @@ unshown m goals = option_map ExtentNotShown (first_false 1 (shown_alone (module_
 
 -- the first constraint that the example breaks, counted from 1
 abbrev pub bad_example : Module → Option AdmissionFault
-bad_example m = option_map BadExample (first_false 1 (kept m))
+bad_example m = option_map BadExample (broken m m.example)
 
 -- the first rule that the module breaks
 abbrev pub admission_fault : Module → Option AdmissionFault

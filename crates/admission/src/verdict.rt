@@ -7,7 +7,7 @@ ghost use Rattle.admission.specs.declared.fault.AdmissionFault.TheVariants.{Memo
 ghost use Rattle.shape_rules.specs.Admitted.{AllShown, SoundByLines, module_facts as module_facts_of};
 ghost use Rattle.term_tree.specs.Modules as m;
 
-use crate::example::broken;
+use crate::constraints::broken_constraint;
 use crate::fault::AdmissionFault;
 use affine_index::Aff;
 use fact_list::Facts;
@@ -85,7 +85,7 @@ fn example_kept(module: &Module) -> Result<(), AdmissionFault>
     ensures answers { MatchResult result (λ _. bad_example «module».now ≡ None) (Tells (bad_example «module».now)) }
     ensures allowed { OnOk result (m.Allowed «module».now «module».now.example) }
 {
-    match broken(module) {
+    match broken_constraint(module, module.example.as_slice()) {
         Some(number) => Err(AdmissionFault::BadExample(number)),
         None => Ok(()),
     }

@@ -1,7 +1,7 @@
 use Rattle.std.proofs.Common.{◌≡◌, ◌+◌, drop, length, map, true}
 use Rattle.affine_index.specs.Condition.{all_scoped}
 use Rattle.admission.specs.Admission.{assume_holds, first_false}
-use Rattle.admission.proofs.example.broken_assume.Given as goal
+use Rattle.admission.proofs.constraints.broken_assume.Given as goal
 
 abbrev pub invariant-loop-at : goal.invariant-loop-at
 invariant-loop-at l = record {

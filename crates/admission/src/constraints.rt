@@ -1,10 +1,10 @@
-//! The first constraint that an example breaks.
+//! The first constraint that sizes break.
 
-ghost use Rattle.std.specs.Prelude.{◌≡◌, ◌≤◌, ◌+◌, length, map, true};
-ghost use Rattle.admission.specs.Admission.{assume_holds, first_false, kept, within};
+ghost use Rattle.std.specs.Prelude.{◌≡◌, ◌≤◌, ◌+◌, None, length, map, true};
+ghost use Rattle.admission.specs.Admission.{assume_holds, broken, first_false, within};
 ghost use Rattle.affine_index.specs.Condition.{all_scoped, cmp_form};
 ghost use Rattle.affine_index.specs.Limited.{items_scoped};
-ghost use Rattle.term_tree.specs.Modules.{module_scoped};
+ghost use Rattle.term_tree.specs.Modules.{Allowed, module_scoped};
 
 use affine_index::Cmp;
 use term_tree::{Module, SizeDecl};
@@ -53,17 +53,20 @@ fn broken_assume(first: u64, assumes: &[Cmp], sizes: &[u64]) -> Option<u64>
     None
 }
 
-/// The number of the first constraint that the example breaks.
-pub fn broken(module: &Module) -> Option<u64>
+/// The number of the first constraint that sizes break, where the first of all has the number 1: the bounds of the sizes in order, then the
+/// assumes.
+pub fn broken_constraint(module: &Module, numbers: &[u64]) -> Option<u64>
     requires scoped { module_scoped «module».now ≡ true }
     requires sizes { length «module».now.sizes ≤ 2147483647 }
-    requires example { length «module».now.example ≡ length «module».now.sizes }
-    ensures { result ≡ first_false 1 (kept «module».now) }
+    requires same { length numbers.now ≡ length «module».now.sizes }
+    // Which answer it is.
+    ensures first { result ≡ broken «module».now numbers.now }
+    // Sizes that break none are allowed.
+    ensures allowed { result ≡ None → Allowed «module».now numbers.now }
 {
     let sizes = module.sizes.as_slice();
-    let example = module.example.as_slice();
-    match broken_bound(sizes, example) {
+    match broken_bound(sizes, numbers) {
         Some(number) => Some(number),
-        None => broken_assume(sizes.len() as u64 + 1, module.assumes.as_slice(), example),
+        None => broken_assume(sizes.len() as u64 + 1, module.assumes.as_slice(), numbers),
     }
 }

@@ -1,6 +1,6 @@
 use Rattle.std.proofs.Common.{◌≡◌, ◌+◌, ◌≤◌, drop, length}
 use Rattle.admission.specs.Admission.{first_false, within}
-use Rattle.admission.proofs.example.broken_bound.Given as goal
+use Rattle.admission.proofs.constraints.broken_bound.Given as goal
 
 abbrev pub invariant-loop-at : goal.invariant-loop-at
 invariant-loop-at l = record {
