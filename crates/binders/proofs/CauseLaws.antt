@@ -20,58 +20,58 @@ module _ (p : ℕ → ℕ → Items → Bool) (q : ℕ → ℕ → ℕ → Bool)
   abbrev place : Term → ℕ → ℕ → Bool
   place = place_fold p q
 
-  place-Index : (e : Term) (x : Aff) (i j : ℕ) → place (Index e x) i j ≡ (place e i j || p i j x)
+  pub place-Index : (e : Term) (x : Aff) (i j : ℕ) → place (Index e x) i j ≡ (place e i j || p i j x)
   place-Index e x i j = ap (λ z. place z i j) (Index-is e x) ∙ place_fold-is p q (index e x) i j ∙ (λ t. sym (place_fold-is p q e i j) t || p i j x)
 
-  place-Gen : (n : Aff) (e : Term) (i j : ℕ) → place (Gen n e) i j ≡ place e (i + 1) j
+  pub place-Gen : (n : Aff) (e : Term) (i j : ℕ) → place (Gen n e) i j ≡ place e (i + 1) j
   place-Gen n e i j = ap (λ z. place z i j) (Gen-is n e) ∙ place_fold-is p q (gen n e) i j ∙ sym (place_fold-is p q e (i + 1) j)
 
-  place-Sum : (n : Aff) (e : Term) (i j : ℕ) → place (Sum n e) i j ≡ place e (i + 1) j
+  pub place-Sum : (n : Aff) (e : Term) (i j : ℕ) → place (Sum n e) i j ≡ place e (i + 1) j
   place-Sum n e i j = ap (λ z. place z i j) (Sum-is n e) ∙ place_fold-is p q (sum n e) i j ∙ sym (place_fold-is p q e (i + 1) j)
 
-  place-Guard : (c : Cond) (e : Term) (i j : ℕ) → place (Guard c e) i j ≡ (any_cmp (p i j) c.all || place e i j)
+  pub place-Guard : (c : Cond) (e : Term) (i j : ℕ) → place (Guard c e) i j ≡ (any_cmp (p i j) c.all || place e i j)
   place-Guard c e i j = ap (λ z. place z i j) (Guard-is c e) ∙ place_fold-is p q (guard c e) i j
       ∙ (λ t. any_cmp (p i j) c.all || sym (place_fold-is p q e i j) t)
 
-  place-Let : (a b : Term) (i j : ℕ) → place (Let a b) i j ≡ (place a i j || place b i (j + 1))
+  pub place-Let : (a b : Term) (i j : ℕ) → place (Let a b) i j ≡ (place a i j || place b i (j + 1))
   place-Let a b i j = ap (λ z. place z i j) (Let-is a b) ∙ place_fold-is p q (let_in a b) i j
       ∙ (λ t. sym (place_fold-is p q a i j) t || sym (place_fold-is p q b i (j + 1)) t)
 
-  place-Add : (a b : Term) (i j : ℕ) → place (Add a b) i j ≡ (place a i j || place b i j)
+  pub place-Add : (a b : Term) (i j : ℕ) → place (Add a b) i j ≡ (place a i j || place b i j)
   place-Add a b i j = ap (λ z. place z i j) (Add-is a b) ∙ place_fold-is p q (add a b) i j
       ∙ (λ t. sym (place_fold-is p q a i j) t || sym (place_fold-is p q b i j) t)
 
-  place-Sub : (a b : Term) (i j : ℕ) → place (Sub a b) i j ≡ (place a i j || place b i j)
+  pub place-Sub : (a b : Term) (i j : ℕ) → place (Sub a b) i j ≡ (place a i j || place b i j)
   place-Sub a b i j = ap (λ z. place z i j) (Sub-is a b) ∙ place_fold-is p q (sub a b) i j
       ∙ (λ t. sym (place_fold-is p q a i j) t || sym (place_fold-is p q b i j) t)
 
-  place-Mul : (a b : Term) (i j : ℕ) → place (Mul a b) i j ≡ (place a i j || place b i j)
+  pub place-Mul : (a b : Term) (i j : ℕ) → place (Mul a b) i j ≡ (place a i j || place b i j)
   place-Mul a b i j = ap (λ z. place z i j) (Mul-is a b) ∙ place_fold-is p q (mul a b) i j
       ∙ (λ t. sym (place_fold-is p q a i j) t || sym (place_fold-is p q b i j) t)
 
-  place-Concat : (a b : Term) (i j : ℕ) → place (Concat a b) i j ≡ (place a i j || place b i j)
+  pub place-Concat : (a b : Term) (i j : ℕ) → place (Concat a b) i j ≡ (place a i j || place b i j)
   place-Concat a b i j = ap (λ z. place z i j) (Concat-is a b) ∙ place_fold-is p q (concat a b) i j
       ∙ (λ t. sym (place_fold-is p q a i j) t || sym (place_fold-is p q b i j) t)
 
-  place-Flatten : (e : Term) (i j : ℕ) → place (Flatten e) i j ≡ place e i j
+  pub place-Flatten : (e : Term) (i j : ℕ) → place (Flatten e) i j ≡ place e i j
   place-Flatten e i j = ap (λ z. place z i j) (Flatten-is e) ∙ place_fold-is p q (flatten e) i j ∙ sym (place_fold-is p q e i j)
 
-  place-Split : (k : ℕ) (e : Term) (i j : ℕ) → place (Split k e) i j ≡ place e i j
+  pub place-Split : (k : ℕ) (e : Term) (i j : ℕ) → place (Split k e) i j ≡ place e i j
   place-Split k e i j = ap (λ z. place z i j) (Split-is k e) ∙ place_fold-is p q (split k e) i j ∙ sym (place_fold-is p q e i j)
 
-  place-Transpose : (e : Term) (i j : ℕ) → place (Transpose e) i j ≡ place e i j
+  pub place-Transpose : (e : Term) (i j : ℕ) → place (Transpose e) i j ≡ place e i j
   place-Transpose e i j = ap (λ z. place z i j) (Transpose-is e) ∙ place_fold-is p q (transpose e) i j ∙ sym (place_fold-is p q e i j)
 
-  place-TruncL : (n : Aff) (e : Term) (i j : ℕ) → place (TruncL n e) i j ≡ place e i j
+  pub place-TruncL : (n : Aff) (e : Term) (i j : ℕ) → place (TruncL n e) i j ≡ place e i j
   place-TruncL n e i j = ap (λ z. place z i j) (TruncL-is n e) ∙ place_fold-is p q (trunc_l n e) i j ∙ sym (place_fold-is p q e i j)
 
-  place-TruncR : (n : Aff) (e : Term) (i j : ℕ) → place (TruncR n e) i j ≡ place e i j
+  pub place-TruncR : (n : Aff) (e : Term) (i j : ℕ) → place (TruncR n e) i j ≡ place e i j
   place-TruncR n e i j = ap (λ z. place z i j) (TruncR-is n e) ∙ place_fold-is p q (trunc_r n e) i j ∙ sym (place_fold-is p q e i j)
 
-  place-PadL : (n : Aff) (e : Term) (i j : ℕ) → place (PadL n e) i j ≡ place e i j
+  pub place-PadL : (n : Aff) (e : Term) (i j : ℕ) → place (PadL n e) i j ≡ place e i j
   place-PadL n e i j = ap (λ z. place z i j) (PadL-is n e) ∙ place_fold-is p q (pad_l n e) i j ∙ sym (place_fold-is p q e i j)
 
-  place-PadR : (n : Aff) (e : Term) (i j : ℕ) → place (PadR n e) i j ≡ place e i j
+  pub place-PadR : (n : Aff) (e : Term) (i j : ℕ) → place (PadR n e) i j ≡ place e i j
   place-PadR n e i j = ap (λ z. place z i j) (PadR-is n e) ∙ place_fold-is p q (pad_r n e) i j ∙ sym (place_fold-is p q e i j)
 
 pub first : (m a b : Bool) → (m || a) ≡ true → (m || (a || b)) ≡ true

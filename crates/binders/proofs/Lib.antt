@@ -10,6 +10,7 @@ pub mod LoneLaws
 pub mod MapFold
 pub mod NormalLaws
 pub mod PartLaws
+pub mod PartReach
 pub mod PlaceFold
 pub mod PlainLaws
 pub mod ReachLaws

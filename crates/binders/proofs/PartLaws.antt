@@ -1,5 +1,5 @@
 -- What a node of two parts is, and its refusals, from those of the parts.
-use Rattle.std.proofs.Common.{◌≡◌, ℕ, ◌+◌, Bool, true, false, ◌||◌, ◌&&◌, ap, sym, ◌∙◌, subst, Option, Some, None, Result, Ok, Err}
+use Rattle.std.proofs.Common.{◌≡◌, ◌⊎◌, inl, inr, refl, ℕ, ◌+◌, Bool, true, false, ◌||◌, ◌&&◌, ap, sym, ◌∙◌, subst, Option, Some, None, Result, Ok, Err}
 use Rattle.affine_index.specs.Normal.{is_short}
 use Rattle.affine_index.specs.Normal.{coefficients_fit as form_fits}
 use Rattle.affine_index.specs.declared.aff.Aff.{Aff}
@@ -7,15 +7,18 @@ use Rattle.affine_index.specs.declared.cond.Cond.{Cond}
 use Rattle.term_tree.specs.declared.term.Term.{Term}
 use Rattle.term_tree.specs.declared.term.Term.TheOpen.{Term-F}
 use Rattle.term_tree.specs.declared.term.Term.TheFolds.{fold-Term, fold-roll-Term}
-use Rattle.term_tree.specs.declared.term.Term.TheVariants.{Index, Gen, Sum, Guard, Let, Add, Sub, Mul, Concat, TruncL, TruncR, PadL, PadR}
+use Rattle.term_tree.specs.declared.term.Term.TheVariants.{WordOf, Index, Gen, Sum, Guard, Let, Add, Sub, Mul, Concat, Flatten, Split, Transpose, TruncL}
+use Rattle.term_tree.specs.declared.term.Term.TheVariants.{TruncR, PadL, PadR}
 use Rattle.term_tree.specs.declared.term.Term.TheVariants.{rolls-Index, rolls-Gen, rolls-Sum, rolls-Guard, rolls-Let, rolls-Add, rolls-Sub}
-use Rattle.term_tree.specs.declared.term.Term.TheVariants.{rolls-Mul, rolls-Concat, rolls-TruncL, rolls-TruncR, rolls-PadL, rolls-PadR}
+use Rattle.term_tree.specs.declared.term.Term.TheVariants.{rolls-Mul, rolls-Concat, rolls-Flatten, rolls-Split, rolls-Transpose, rolls-WordOf, rolls-TruncL}
+use Rattle.term_tree.specs.declared.term.Term.TheVariants.{rolls-TruncR, rolls-PadL, rolls-PadR}
 use Rattle.term_tree.specs.Limits.{coefficients_fit, each_cmp, form_step, forms_short}
 use Rattle.binders.specs.Answers.{IsCond, IsForm, IsPart, IsPartOf, Refusals, form_causes, is_memory, part_causes, parts_of, place_step, tensor_refused}
-use Rattle.binders.specs.Kinds.{node_of}
+use Rattle.binders.specs.Kinds.{made_of, node_of}
 use Rattle.binders.specs.Maps.{Replacement, map_fold, map_step, put_at, put_cond_at}
 use Rattle.binders.specs.Uses.{any_cmp}
 use Rattle.binders.specs.declared.refusal.MapRefusal.{MapRefusal}
+use Rattle.binders.specs.declared.refusal.MapRefusal.TheVariants.{Memory}
 use Rattle.binders.proofs.CauseLaws.{first, second}
 
 -- a fold at each node of two parts
@@ -34,6 +37,18 @@ module _ (A : Type 0) (step : Term-F A → A) where
 
   at-Guard : (c : Cond) (e : Term) → fold (Guard c e) ≡ step (Term-F.Guard c (fold e))
   at-Guard c e = ap fold (sym (rolls-Guard c e)) ∙ fold-roll-Term A step (Term-F.Guard c e)
+
+  at-Flatten : (e : Term) → fold (Flatten e) ≡ step (Term-F.Flatten (fold e))
+  at-Flatten e = ap fold (sym (rolls-Flatten e)) ∙ fold-roll-Term A step (Term-F.Flatten e)
+
+  at-Split : (k : ℕ) (e : Term) → fold (Split k e) ≡ step (Term-F.Split k (fold e))
+  at-Split k e = ap fold (sym (rolls-Split k e)) ∙ fold-roll-Term A step (Term-F.Split k e)
+
+  at-Transpose : (e : Term) → fold (Transpose e) ≡ step (Term-F.Transpose (fold e))
+  at-Transpose e = ap fold (sym (rolls-Transpose e)) ∙ fold-roll-Term A step (Term-F.Transpose e)
+
+  at-WordOf : (x : Aff) → fold (WordOf x) ≡ step (Term-F.WordOf x)
+  at-WordOf x = ap fold (sym (rolls-WordOf x)) ∙ fold-roll-Term A step (Term-F.WordOf x)
 
   at-Let : (a : Term) (b : Term) → fold (Let a b) ≡ step (Term-F.Let (fold a) (fold b))
   at-Let a b = ap fold (sym (rolls-Let a b)) ∙ fold-roll-Term A step (Term-F.Let a b)
@@ -113,6 +128,51 @@ module _ (m : Replacement) (r : Refusals) where
       paired (Ok (Some u)) (Err e) g h = ap (λ b. is_memory e || b) (found e) ∙ second (is_memory e) (k e) (k' e) h
       paired (Ok None) (Err e) g h = ap (λ b. is_memory e || b) (found e) ∙ second (is_memory e) (k e) (k' e) h
       paired (Err e) b g h = ap (λ b. is_memory e || b) (found e) ∙ first (is_memory e) (k e) (k' e) g
+
+    -- a node is what its one part gives
+    pub made_lone : {A : Type 0} (make : A → Term) (k : Result (Option A) MapRefusal) (b : Result (Option Term) MapRefusal)
+        → b ≡ made_of make k → Part z i j (made_of make k) → Part z i j b
+    made_lone make k b s h = subst (Part z i j) (sym s) h
+
+    module _ {A : Type 0} (make : A → Term) (x : A) (f s : Bool) (k : MapRefusal → Bool) (is : raw z i j ≡ make x)
+        (fits : coefficients_fit (make x) ≡ f) (short : forms_short (make x) ≡ s) (found : (d : MapRefusal) → causes z i j d ≡ k d) where
+      lone : (a : Result (Option A) MapRefusal) → IsPart x f s k a → Part z i j (made_of make a)
+      lone (Ok (Some u)) g = (ap make g.0 ∙ sym is, ap coefficients_fit is ∙ fits ∙ g.1, ap forms_short is ∙ short ∙ g.2)
+      lone (Ok None) g = (ap coefficients_fit is ∙ fits ∙ g.0, ap forms_short is ∙ short ∙ g.1)
+      lone (Err e) g = ap (λ b. is_memory e || b) (found e) ∙ g
+
+    pub of-Flatten : (e : Term) (k : Result (Option Term) MapRefusal) → z ≡ Flatten e → Part e i j k → Part z i j (made_of Flatten k)
+    of-Flatten e k s g = lone Flatten (raw e i j) (coefficients_fit (raw e i j)) (forms_short (raw e i j)) (causes e i j)
+        (ap (λ x. raw x i j) s ∙ ap (λ f. f i j) (at-Flatten (ℕ → ℕ → Term) maps e))
+        (at-Flatten Bool (form_step form_fits) (raw e i j)) (at-Flatten Bool (form_step is_short) (raw e i j))
+        (λ d. ap (λ x. causes x i j d) s ∙ ap (λ f. f i j) (at-Flatten (ℕ → ℕ → Bool) (finds d) e))
+        k g
+
+    pub of-Split : (c : ℕ) (e : Term) (k : Result (Option Term) MapRefusal) → z ≡ Split c e → Part e i j k → Part z i j (made_of (Split c) k)
+    of-Split c e k s g = lone (Split c) (raw e i j) (coefficients_fit (raw e i j)) (forms_short (raw e i j)) (causes e i j)
+        (ap (λ x. raw x i j) s ∙ ap (λ f. f i j) (at-Split (ℕ → ℕ → Term) maps c e))
+        (at-Split Bool (form_step form_fits) c (raw e i j)) (at-Split Bool (form_step is_short) c (raw e i j))
+        (λ d. ap (λ x. causes x i j d) s ∙ ap (λ f. f i j) (at-Split (ℕ → ℕ → Bool) (finds d) c e))
+        k g
+
+    pub of-Transpose : (e : Term) (k : Result (Option Term) MapRefusal) → z ≡ Transpose e → Part e i j k → Part z i j (made_of Transpose k)
+    of-Transpose e k s g = lone Transpose (raw e i j) (coefficients_fit (raw e i j)) (forms_short (raw e i j)) (causes e i j)
+        (ap (λ x. raw x i j) s ∙ ap (λ f. f i j) (at-Transpose (ℕ → ℕ → Term) maps e))
+        (at-Transpose Bool (form_step form_fits) (raw e i j)) (at-Transpose Bool (form_step is_short) (raw e i j))
+        (λ d. ap (λ x. causes x i j d) s ∙ ap (λ f. f i j) (at-Transpose (ℕ → ℕ → Bool) (finds d) e))
+        k g
+
+    pub of-WordOf : (x : Aff) (k : Result (Option Aff) MapRefusal) → z ≡ WordOf x → Form x i j k → Part z i j (made_of WordOf k)
+    of-WordOf x k s g = lone WordOf (put_at m i j x) (form_fits (put_at m i j x)) (is_short (put_at m i j x)) (λ d. form_causes m r d i j x)
+        (ap (λ x. raw x i j) s ∙ ap (λ f. f i j) (at-WordOf (ℕ → ℕ → Term) maps x))
+        (at-WordOf Bool (form_step form_fits) (put_at m i j x)) (at-WordOf Bool (form_step is_short) (put_at m i j x))
+        (λ d. ap (λ x. causes x i j d) s ∙ ap (λ f. f i j) (at-WordOf (ℕ → ℕ → Bool) (finds d) x))
+        k g
+
+    -- a part in a box, unless there is no memory for one
+    pub in_box : (y : Term) (a b : Result (Option Term) MapRefusal) → z ≡ y → Part y i j a → (b ≡ a) ⊎ (b ≡ Err Memory) → Part z i j b
+    in_box y a b s h (inl e) = subst (λ x. Part x i j b) (sym s) (subst (Part y i j) (sym e) h)
+    in_box y a b s h (inr e) = subst (Part z i j) (sym e) refl
 
     pub of-Index : (e : Term) (x : Aff) (k : Result (Option Term) MapRefusal) (l : Result (Option Aff) MapRefusal) → z ≡ Index e x
         → Part e i j k → Form x i j l → Part z i j (node_of Index (parts_of k l))

@@ -2,7 +2,9 @@
 use Rattle.std.specs.Prelude.{Option, Some, None, Result, Ok, Err}
 use Rattle.affine_index.specs.declared.aff.Aff.{Aff}
 use Rattle.term_tree.specs.declared.term.Term.{Term}
-use Rattle.term_tree.specs.declared.term.Term.TheVariants.{Gen, Sum, Let, Add, Sub, Mul, Concat, TruncL, TruncR, PadL, PadR}
+use Rattle.term_tree.specs.declared.term.Term.TheVariants.{Gen, Sum, Let, Add, Sub, Mul, Concat, Flatten, Split, Transpose, TruncL, TruncR, PadL, PadR}
+use Rattle.binders.specs.declared.kinds.LoneKind.{LoneKind}
+use Rattle.binders.specs.declared.kinds.LoneKind.TheVariants as lone
 use Rattle.binders.specs.declared.kinds.PairKind.{PairKind}
 use Rattle.binders.specs.declared.kinds.PairKind.TheVariants as pair
 use Rattle.binders.specs.declared.kinds.RowKind.{RowKind}
@@ -25,6 +27,18 @@ pair_of pair.Add a b = Add a b
 pair_of pair.Sub a b = Sub a b
 pair_of pair.Mul a b = Mul a b
 pair_of pair.Concat a b = Concat a b
+
+-- the node of this kind with this part
+abbrev pub lone_of : LoneKind → Term → Term
+lone_of lone.Flatten e = Flatten e
+lone_of (lone.Split k) e = Split k e
+lone_of lone.Transpose e = Transpose e
+
+-- the node of one part, where it is short
+abbrev pub made_of : {A : Type 0} → (A → Term) → Result (Option A) MapRefusal → Result (Option Term) MapRefusal
+made_of make (Ok (Some a)) = Ok (Some (make a))
+made_of make (Ok None) = Ok None
+made_of make (Err e) = Err e
 
 -- the node of two parts, where both are short; the first refusal else
 abbrev pub node_of : {A B : Type 0} → (A → B → Term) → Result (Option (A × B)) MapRefusal → Result (Option Term) MapRefusal

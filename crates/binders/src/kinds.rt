@@ -1,8 +1,8 @@
 //! Nodes of mapped parts.
 
 ghost use Rattle.std.specs.Prelude.{◌≡◌};
-ghost use Rattle.term_tree.specs.declared.term.Term.TheVariants.{Guard, Index};
-ghost use Rattle.binders.specs.Kinds.{node_of, pair_of, row_of};
+ghost use Rattle.term_tree.specs.declared.term.Term.TheVariants.{Guard, Index, WordOf};
+ghost use Rattle.binders.specs.Kinds.{lone_of, made_of, node_of, pair_of, row_of};
 
 use crate::refusal::MapRefusal;
 use affine_index::{Aff, Cond};
@@ -30,6 +30,14 @@ pub enum PairKind {
     Concat,
 }
 
+/// The other nodes of one part.
+#[derive(Clone, Copy)]
+pub enum LoneKind {
+    Flatten,
+    Split(u32),
+    Transpose,
+}
+
 fn row(kind: RowKind, form: Aff, part: Boxed<Term>) -> Term
     ensures { result ≡ row_of kind form part }
 {
@@ -52,6 +60,41 @@ fn pair(kind: PairKind, left: Boxed<Term>, right: Boxed<Term>) -> Term
         PairKind::Sub => Term::Sub(left, right),
         PairKind::Mul => Term::Mul(left, right),
         PairKind::Concat => Term::Concat(left, right),
+    }
+}
+
+fn lone(kind: LoneKind, part: Boxed<Term>) -> Term
+    ensures { result ≡ lone_of kind part }
+{
+    match kind {
+        LoneKind::Flatten => Term::Flatten(part),
+        LoneKind::Split(k) => Term::Split(k, part),
+        LoneKind::Transpose => Term::Transpose(part),
+    }
+}
+
+/// A node of one part, where it is short.
+pub fn lone_node(
+    kind: LoneKind,
+    part: Result<Option<Boxed<Term>>, MapRefusal>,
+) -> Result<Option<Term>, MapRefusal>
+    ensures { result ≡ made_of (lone_of kind) part }
+{
+    match part {
+        Ok(Some(part)) => Ok(Some(lone(kind, part))),
+        Ok(None) => Ok(None),
+        Err(refusal) => Err(refusal),
+    }
+}
+
+/// The word of a form that is short.
+pub fn word_node(form: Result<Option<Aff>, MapRefusal>) -> Result<Option<Term>, MapRefusal>
+    ensures { result ≡ made_of WordOf form }
+{
+    match form {
+        Ok(Some(form)) => Ok(Some(Term::WordOf(form))),
+        Ok(None) => Ok(None),
+        Err(refusal) => Err(refusal),
     }
 }
 

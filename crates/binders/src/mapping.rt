@@ -1,11 +1,13 @@
 //! Terms with the replacement of each variable.
 
-ghost use Rattle.std.specs.Prelude.{◌≡◌, ◌+◌, ◌^◌, ◌<◌, true, false, not};
+ghost use Rattle.std.specs.Prelude.{◌≡◌, ◌⊎◌, ◌+◌, ◌^◌, ◌<◌, true, false, not, Err};
 ghost use Rattle.term_tree.specs.Counts.{depth_fold};
 ghost use Rattle.binders.specs.Answers.{IsForm, IsPartOf, form_beyond, part_causes, parts_of, place_fold, tensor_refused};
 ghost use Rattle.binders.specs.Maps.{map_fold};
 
-use crate::kinds::{PairKind, RowKind, guard_node, index_node, pair_node, row_node};
+use crate::kinds::{
+    LoneKind, PairKind, RowKind, guard_node, index_node, lone_node, pair_node, row_node, word_node,
+};
 use crate::refusal::MapRefusal;
 use crate::replacement::{put_cond, put_form};
 use crate::var_map::VarMap;
@@ -88,6 +90,23 @@ pub fn under_tensor(depths: Depths) -> Depths
     }
 }
 
+/// A part in a box.
+fn boxed(
+    alloc: Global,
+    part: Result<Option<Term>, MapRefusal>,
+) -> Result<Option<Boxed<Term>>, MapRefusal>
+    ensures { (result ≡ part) ⊎ (result ≡ Err MapRefusal.Memory) }
+{
+    match part {
+        Ok(Some(term)) => match Boxed::new(alloc, term) {
+            Ok(part) => Ok(Some(part)),
+            Err(_) => Err(MapRefusal::Memory),
+        },
+        Ok(None) => Ok(None),
+        Err(refusal) => Err(refusal),
+    }
+}
+
 #[cycle(map)]
 fn below<M: VarMap>(
     alloc: Global,
@@ -100,10 +119,7 @@ fn below<M: VarMap>(
     requires within { place_fold (form_beyond (M.reach map.now)) (λ i j q. not ((M.reach map.now).has_tensor i j q)) term.now depths.index depths.tensor ≡ false }
     ensures { IsPartOf (map_fold (M.meaning map.now) term.now depths.index depths.tensor) (part_causes (M.meaning map.now) (M.refusals map.now) term.now depths.index depths.tensor) result }
 {
-    match part(alloc, map, depths, term.get())? {
-        Some(mapped) => Ok(Some(Boxed::new(alloc, mapped)?)),
-        None => Ok(None),
-    }
+    boxed(alloc, part(alloc, map, depths, term.get()))
 }
 
 /// The mapped term, or nothing where a form is too long; there is no limit on nodes here.
@@ -122,10 +138,7 @@ pub fn part<M: VarMap>(
     match term {
         Term::Lit(w) => Ok(Some(Term::Lit(*w))),
         Term::TVar(q) => tensor(alloc, map, depths, *q),
-        Term::WordOf(x) => match put_form(alloc, map, depths, x)? {
-            Some(x) => Ok(Some(Term::WordOf(x))),
-            None => Ok(None),
-        },
+        Term::WordOf(x) => word_node(put_form(alloc, map, depths, x)),
         Term::Index(e, x) => index_node(parts(
             below(alloc, map, depths, e),
             put_form(alloc, map, depths, x),
@@ -165,18 +178,9 @@ pub fn part<M: VarMap>(
             PairKind::Concat,
             parts(below(alloc, map, depths, a), below(alloc, map, depths, b)),
         ),
-        Term::Flatten(e) => match below(alloc, map, depths, e)? {
-            Some(e) => Ok(Some(Term::Flatten(e))),
-            None => Ok(None),
-        },
-        Term::Split(k, e) => match below(alloc, map, depths, e)? {
-            Some(e) => Ok(Some(Term::Split(*k, e))),
-            None => Ok(None),
-        },
-        Term::Transpose(e) => match below(alloc, map, depths, e)? {
-            Some(e) => Ok(Some(Term::Transpose(e))),
-            None => Ok(None),
-        },
+        Term::Flatten(e) => lone_node(LoneKind::Flatten, below(alloc, map, depths, e)),
+        Term::Split(k, e) => lone_node(LoneKind::Split(*k), below(alloc, map, depths, e)),
+        Term::Transpose(e) => lone_node(LoneKind::Transpose, below(alloc, map, depths, e)),
         Term::TruncL(n, e) => row_node(
             RowKind::TruncL,
             parts(copy(alloc, n), below(alloc, map, depths, e)),
