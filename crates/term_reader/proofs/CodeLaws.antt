@@ -1,6 +1,7 @@
 -- Chains of an index, beside the loops that read them.
 use Rattle.std.proofs.Common.{◌≡◌, ℕ, zero, suc, ◌+◌, ◌-◌, ◌<◌, ◌≤◌, ◌==◌, nat_lt, pos, cond, Bool, true, false, Option, Some, None, Result, Ok, Err, ◌≢◌, refl}
 use Rattle.std.proofs.Common.{sym, ap, subst, ◌∙◌, arith}
+use Rattle.text_tokens.specs.declared.kind.Kind.{Kind}
 use Rattle.text_tokens.specs.declared.kind.Kind.TheVariants as k
 use Rattle.text_tokens.specs.Numbers.{number}
 use Rattle.text_tokens.specs.Kinds.{Text, same_kind}
@@ -16,14 +17,14 @@ use Rattle.reader_laws.specs.declared.fault.ReadError.{ReadError}
 use Rattle.reader_laws.specs.declared.fault.ReadError.TheVariants.{Memory}
 use Rattle.affine_index.specs.Quotient.{quotient_of, remainder_of}
 use Rattle.source_grammar.specs.Limits.{tested}
-use Rattle.source_grammar.specs.declared.operator.Operator.TheVariants.{Over, Modulo}
+use Rattle.source_grammar.specs.declared.operator.Operator.TheVariants.{Times, Over, Modulo}
 use Rattle.reader_laws.specs.Steps.{Parser, Outcome, and_then, refusal, kind, text, read_as, Reads, Gives}
 use Rattle.reader_laws.specs.Chain.{joined, chain}
 use Rattle.reader_laws.proofs.Loops.{chain_stop, chain_go, chain_full}
 use Rattle.source_grammar.specs.declared.operator.Operator.{Operator}
 use Rattle.source_grammar.specs.Index.{divisor_if, divisor_value, Level, Sum, Part, join, sum_operator, product_operator, sums, products, max_text}
 use Rattle.source_grammar.specs.ReadIndex.{right_of, part, product, sum, inner}
-use Rattle.term_reader.specs.Steps.{placed, answer, next_part, next_product, more_products, more_sums, divisor_number, divisor_number_if}
+use Rattle.term_reader.specs.Steps.{IsOfProduct, placed, answer, next_divisor, next_part, next_product, more_products, more_sums, divisor_number, divisor_number_if}
 
 -- a join and what follows, as one step and then what follows
 stepped : {A : Type 0} (w : Word) (r : Result A Fault) (more : A → Parser A) (i : Input) → joined w r more i ≡ and_then (answer (placed w.place r) i) more
@@ -164,22 +165,6 @@ answered {A = A} (Ok a) due j h = ap (λ (d : Result A ReadError). answer d j) h
 answered {A = A} (Err e) due j h = λ n. ap (λ (d : Result A ReadError). answer d j) (h n)
 
 module _ (names : Text → Result Items Fault) (inside : Level → Parser Items) (levels : ℕ) where
-  over_gives_so : (place : ℕ) (left : Items) (i j : Input) (by : ℕ) (r : Result Items ReadError) → word_in levels k.Number divisor_number i ≡ Ok (by, j)
-      → Gives (λ x. x) r (placed place (tested (quotient_of left by)))
-      → Reads (λ x. x) (next_part names inside levels place left Over i) r j
-  unfolding next_part
-  over_gives_so place left i j by r reads h =
-      subst (λ (o : Outcome Items). Reads (λ x. x) (and_then o (λ right. answer (placed place (join Over left right)))) r j)
-      (sym (divisor_ok levels i j by reads)) (answered r (placed place (tested (quotient_of left by))) j h)
-
-  modulo_gives_so : (place : ℕ) (left : Items) (i j : Input) (by : ℕ) (r : Result Items ReadError) → word_in levels k.Number divisor_number i ≡ Ok (by, j)
-      → Gives (λ x. x) r (placed place (tested (remainder_of left by)))
-      → Reads (λ x. x) (next_part names inside levels place left Modulo i) r j
-  unfolding next_part
-  modulo_gives_so place left i j by r reads h =
-      subst (λ (o : Outcome Items). Reads (λ x. x) (and_then o (λ right. answer (placed place (join Modulo left right)))) r j)
-      (sym (divisor_ok levels i j by reads)) (answered r (placed place (tested (remainder_of left by))) j h)
-
   pub products_fails : (n at place : ℕ) (left : Items) (o : Operator) (i : Input) (x : ReadError) → place ≡ (peek i).place → at < n
       → product_operator (kind i) ≡ Some o
       → (x ≢ Memory → next_part names inside levels place left o (next i) ≡ Err x) → x ≢ Memory → more_products names inside levels (n - at) left i ≡ Err x
@@ -189,17 +174,44 @@ module _ (names : Text → Result Items Fault) (inside : Level → Parser Items)
       → (x ≢ Memory → next_product names inside levels place left o (next i) ≡ Err x) → x ≢ Memory → more_sums names inside levels (n - at) left i ≡ Err x
   sums_fails n at place left o i x stands below e reads = λ not. sums_fell names inside levels n at place left o i x stands below e (reads not)
 
+-- ---- divisors
+
+module _ (levels : ℕ) where
+  over_gives_so : (place : ℕ) (left : Items) (i j : Input) (by : ℕ) (r : Result Items ReadError) → word_in levels k.Number divisor_number i ≡ Ok (by, j)
+      → Gives (λ x. x) r (placed place (tested (quotient_of left by))) → Reads (λ x. x) (next_divisor levels place left Over i) r j
+  unfolding next_divisor
+  over_gives_so place left i j by r reads h =
+      subst (λ (o : Outcome Items). Reads (λ x. x) (and_then o (λ right. answer (placed place (join Over left right)))) r j)
+      (sym (divisor_ok levels i j by reads)) (answered r (placed place (tested (quotient_of left by))) j h)
+
+  modulo_gives_so : (place : ℕ) (left : Items) (i j : Input) (by : ℕ) (r : Result Items ReadError) → word_in levels k.Number divisor_number i ≡ Ok (by, j)
+      → Gives (λ x. x) r (placed place (tested (remainder_of left by))) → Reads (λ x. x) (next_divisor levels place left Modulo i) r j
+  unfolding next_divisor
+  modulo_gives_so place left i j by r reads h =
+      subst (λ (o : Outcome Items). Reads (λ x. x) (and_then o (λ right. answer (placed place (join Modulo left right)))) r j)
+      (sym (divisor_ok levels i j by reads)) (answered r (placed place (tested (remainder_of left by))) j h)
+
   pub over_gives : (place : ℕ) (left : Items) (o : Operator) (i j : Input) (by : ℕ) (r : Result Items ReadError) → o ≡ Over
       → word_in levels k.Number divisor_number i ≡ Ok (by, j) → Gives (λ x. x) r (placed place (tested (quotient_of left by)))
-      → Reads (λ x. x) (next_part names inside levels place left o i) r j
-  over_gives place left o i j by r is reads h = subst (λ (p : Operator). Reads (λ x. x) (next_part names inside levels place left p i) r j) (sym is)
+      → Reads (λ x. x) (next_divisor levels place left o i) r j
+  over_gives place left o i j by r is reads h = subst (λ (p : Operator). Reads (λ x. x) (next_divisor levels place left p i) r j) (sym is)
       (over_gives_so place left i j by r reads h)
 
   pub modulo_gives : (place : ℕ) (left : Items) (o : Operator) (i j : Input) (by : ℕ) (r : Result Items ReadError) → o ≡ Modulo
       → word_in levels k.Number divisor_number i ≡ Ok (by, j) → Gives (λ x. x) r (placed place (tested (remainder_of left by)))
-      → Reads (λ x. x) (next_part names inside levels place left o i) r j
-  modulo_gives place left o i j by r is reads h = subst (λ (p : Operator). Reads (λ x. x) (next_part names inside levels place left p i) r j) (sym is)
+      → Reads (λ x. x) (next_divisor levels place left o i) r j
+  modulo_gives place left o i j by r is reads h = subst (λ (p : Operator). Reads (λ x. x) (next_divisor levels place left p i) r j) (sym is)
       (modulo_gives_so place left i j by r reads h)
+
+same_operator : (a b : Operator) → (let f : Option Operator = Some a in f) ≡ Some b → a ≡ b
+same_operator a b h = cc
+
+-- an operator of a product is one
+pub is_of_product : (kd : Kind) (o : Operator) → product_operator kd ≡ Some o → IsOfProduct o
+is_of_product k.Star o e = subst IsOfProduct (same_operator Times o e) tt
+is_of_product k.Slash o e = subst IsOfProduct (same_operator Over o e) tt
+is_of_product k.Percent o e = subst IsOfProduct (same_operator Modulo o e) tt
+is_of_product _ o e = absurd cc
 
 pub reads_err : {A : Type 0} (due : Outcome A) (r : Result A ReadError) (x : ReadError) (j : Input) → r ≡ Err x → (x ≢ Memory → due ≡ Err x)
     → Reads (λ x. x) due r j

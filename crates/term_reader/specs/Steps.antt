@@ -22,7 +22,8 @@ use Rattle.reader_laws.specs.Levels.{word_in}
 use Rattle.reader_laws.specs.Steps.{Parser, ◌>>=◌, no_value, pure}
 use Rattle.reader_laws.specs.Chain.{chain}
 use Rattle.source_grammar.specs.declared.operator.Operator.{Operator}
-use Rattle.source_grammar.specs.Index.{Level, join, sums, products}
+use Rattle.source_grammar.specs.declared.operator.Operator.TheVariants as op
+use Rattle.source_grammar.specs.Index.{Level, divisor_value, join, sums, products}
 use Rattle.source_grammar.specs.Index.{Sum as index_sum}
 use Rattle.source_grammar.specs.ReadIndex.{index, right_of, product}
 use Rattle.source_grammar.specs.ReadTerms.{in_brackets, inner}
@@ -40,6 +41,22 @@ placed place (Err fault) = Err (Refused fault place)
 abbrev pub answer : {A : Type 0} → Result A ReadError → Parser A
 answer (Ok x) = λ i. Ok (x, i)
 answer (Err e) = λ i. Err e
+
+-- an operator of a product, and one whose right side is a divisor
+abbrev pub IsOfProduct : Operator → Type 0
+IsOfProduct op.Times = Unit {0}
+IsOfProduct op.Over = Unit {0}
+IsOfProduct op.Modulo = Unit {0}
+IsOfProduct _ = ⊥
+
+abbrev pub IsDivision : Operator → Type 0
+IsDivision op.Over = Unit {0}
+IsDivision op.Modulo = Unit {0}
+IsDivision _ = ⊥
+
+-- a divisor to the right of an operator at this place, joined to what stands to its left
+unfoldable pub next_divisor : ℕ → ℕ → Items → Operator → Parser Items
+next_divisor levels place left o = word_in levels k.Number divisor_value >>= λ right. answer (placed place (join o left right))
 
 module _ (names : Text → Result Items Fault) (inside : Level → Parser Items) (levels : ℕ) where
   -- what stands to the right of an operator at this place, joined to what stands to its left

@@ -7,7 +7,7 @@ ghost use Rattle.reader_laws.specs.Steps.{Reads};
 ghost use Rattle.source_grammar.specs.Index.{IsSign, literal_value, max_text};
 ghost use Rattle.source_grammar.specs.ReadIndex as spec;
 ghost use Rattle.term_reader.specs.Names.{named};
-ghost use Rattle.term_reader.specs.Steps.{divisor_number, next_part, next_product, more_products, more_sums};
+ghost use Rattle.term_reader.specs.Steps.{IsDivision, IsOfProduct, divisor_number, next_divisor, next_part, next_product, more_products, more_sums};
 
 use crate::joins;
 use crate::names::Names;
@@ -131,9 +131,29 @@ fn part(
     }
 }
 
+/// A divisor to the right of an operator, joined to what stands to its left.
+#[tactic(auto, unfolding(crate::specs::Steps::next_divisor), using(crate::proofs::CodeLaws::divisor_ok, crate::proofs::CodeLaws::divisor_err))]
+fn next_divisor(
+    alloc: Global,
+    tokens: &mut Tokens<'_>,
+    levels: usize,
+    place: u64,
+    left: Aff,
+    operator: Operator,
+) -> Result<Aff, ReadError>
+    requires { IsDivision operator }
+    ensures { Reads (λ x. x) (next_divisor levels place left operator tokens.old) result tokens.new }
+{
+    let by = divisor(tokens, levels)?;
+    match operator {
+        Operator::Over => joins::divided(alloc, left, by, place),
+        _ => joins::rest(alloc, left, by, place),
+    }
+}
+
 /// What stands to the right of an operator of a product, joined to what stands to its left.
 #[cycle(descent)]
-#[tactic(auto, unfolding(crate::specs::Steps::next_part), using(crate::proofs::CodeLaws::divisor_ok, crate::proofs::CodeLaws::divisor_err))]
+#[tactic(auto, unfolding(crate::specs::Steps::next_part, crate::specs::Steps::next_divisor))]
 fn next_part(
     alloc: Global,
     names: &Names<'_, '_>,
@@ -143,28 +163,15 @@ fn next_part(
     left: Aff,
     operator: Operator,
 ) -> Result<Aff, ReadError>
+    requires { IsOfProduct operator }
     ensures { Reads (λ x. x) (next_part (named names.now) (spec.inner (named names.now) levels) levels place left operator tokens.old) result tokens.new }
 {
     match operator {
-        Operator::Over => {
-            let by = divisor(tokens, levels)?;
-            joins::divided(alloc, left, by, place)
-        }
-        Operator::Modulo => {
-            let by = divisor(tokens, levels)?;
-            joins::rest(alloc, left, by, place)
-        }
-        Operator::Times => {
+        Operator::Over => next_divisor(alloc, tokens, levels, place, left, operator),
+        Operator::Modulo => next_divisor(alloc, tokens, levels, place, left, operator),
+        _ => {
             let right = part(alloc, names, tokens, levels)?;
             joins::multiplied(alloc, left, right, place)
-        }
-        Operator::Plus => {
-            let right = part(alloc, names, tokens, levels)?;
-            joins::added(alloc, left, right, place)
-        }
-        Operator::Minus => {
-            let right = part(alloc, names, tokens, levels)?;
-            joins::subtracted(alloc, left, right, place)
         }
     }
 }

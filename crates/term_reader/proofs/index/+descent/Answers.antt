@@ -2,27 +2,12 @@ use Rattle.std.proofs.Common.{rules, ◌≡◌, ◌≢◌, ◌∙◌, sym, ap, S
 use Rattle.text_tokens.specs.Words.{peek, next}
 use Rattle.reader_laws.specs.Steps.{kind}
 use Rattle.source_grammar.specs.Index.{max_text, product_operator, sum_operator}
-use Rattle.source_grammar.specs.declared.operator.Operator.TheVariants as op
 use Rattle.reader_laws.specs.declared.fault.ReadError.TheVariants.{Memory}
 use Rattle.source_grammar.specs.ReadIndex as spec
 use Rattle.term_reader.specs.Names.{named}
 use Rattle.term_reader.specs.Steps.{next_part, next_product, more_products, more_sums}
-use Rattle.term_reader.proofs.CodeLaws.{over_gives, modulo_gives, products_fails, sums_fails, products_full, sums_full, text_limit, reads_err}
+use Rattle.term_reader.proofs.CodeLaws.{is_of_product, products_fails, sums_fails, products_full, sums_full, text_limit, reads_err}
 use Rattle.term_reader.proofs.index.+descent.Goals as goal
-
-pub next_part-returns-in_ok-by-in-Over : goal.next_part-returns-in_ok-by-in-Over
-next_part-returns-in_ok-by-in-Over t c =
-    let names = named c.args.names.now in
-    let over : c.args.operator ≡ op.Over = search rules in
-    over_gives names (spec.inner names c.args.levels) c.args.levels c.args.place c.args.left c.args.operator c.args.tokens.now c.divisor.new.tokens
-    c.in_ok-by-in-Over.by c.divided.result over c.in_ok-by-in-Over.ensures.reads c.divided.ensures
-
-pub next_part-returns-in_ok-by-in-Modulo : goal.next_part-returns-in_ok-by-in-Modulo
-next_part-returns-in_ok-by-in-Modulo t c =
-    let names = named c.args.names.now in
-    let modulo : c.args.operator ≡ op.Modulo = search rules in
-    modulo_gives names (spec.inner names c.args.levels) c.args.levels c.args.place c.args.left c.args.operator c.args.tokens.now c.divisor-in-Modulo.new.tokens
-    c.in_ok-by-in-Modulo.by c.rest.result modulo c.in_ok-by-in-Modulo.ensures.reads c.rest.ensures
 
 pub more_products-returns-in_err-left : goal.more_products-returns-in_err-left
 more_products-returns-in_err-left t c =
@@ -73,3 +58,8 @@ more_sums-returns-in-Some-sum_operator t c = λ _.
     let done : max_text ≤ c.loop-turn._turn = omega (arith, limit, c.loop-turn-test.false) in
     c.loop-turn.invariant ∙ sums_full names (spec.inner names c.args.levels) c.args.levels max_text c.loop-turn._turn c.loop-turn.left
     c.in-Some-sum_operator.field-0 c.loop-turn.tokens done operator ∙ ap (λ e. Err e) (sym c.refuse.ensures)
+
+pub more_products-next_part-requires : goal.more_products-next_part-requires
+more_products-next_part-requires t c =
+    let operator : product_operator (kind c.loop-turn.tokens) ≡ Some c.in-Some.operator = search rules in
+    (search rules, is_of_product (kind c.loop-turn.tokens) c.in-Some.operator operator)
