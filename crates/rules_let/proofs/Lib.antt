@@ -1,0 +1,13 @@
+pub mod ApplyLaws
+pub mod DraftLaws
+pub mod InliningLaws
+pub mod LiftingLaws
+pub mod MovingLaws
+pub mod NestingLaws
+pub mod OperatorFrames
+pub mod OperatorLaws
+pub mod Parts
+pub mod PutTensorLaws
+pub mod ReachLaws
+pub mod ShapeLaws
+pub mod UsingLaws

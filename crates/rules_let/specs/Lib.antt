@@ -1,0 +1,4 @@
+pub mod Arguments
+pub mod Operators
+pub mod Table
+pub mod Rules
