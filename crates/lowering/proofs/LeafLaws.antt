@@ -1,4 +1,5 @@
 -- Leaves and reads at a node.
+use Rattle.std.proofs.Common.{◌+◌, add-one, drop, drop-cons}
 use Rattle.std.proofs.Common.{◌≡◌, ℕ, zero, suc, ◌<◌, List, [], ◌∷◌, ◌++◌, length, map, get_or, refl, sym, ap, ◌∙◌, subst, Bool, true, false}
 use Rattle.std.proofs.Common.{Option, Some, None, ◌⊎◌, inl, inr, if◌then◌else◌}
 use Rattle.std.proofs.lemmas.Bool.{and_parts, ltb-true}
@@ -42,6 +43,10 @@ use Rattle.lowering.specs.Words.{loaded_if_in, word_in}
 use Rattle.lowering.proofs.FormLaws.{free-ready}
 use Rattle.lowering.proofs.ReadyLaws.{made-parts, shapes-of}
 use Rattle.lowering.proofs.WordForms.{IsRead}
+
+-- what is left of a list at one of its items
+pub rest_at : {A : Type 0} (ts : List A) (i : ℕ) (t : A) → t ≡ get_or ts i t → i < length ts → drop i ts ≡ t ∷ drop (i + 1) ts
+rest_at ts i t e l = drop-cons ts i t l ∙ (λ j. sym e j ∷ drop (sym (add-one i) j) ts)
 
 -- a tensor variable that a read names is in scope
 abbrev ThereIf : ℕ → Option Read → Type 0

@@ -14,6 +14,14 @@ use Rattle.final_rules.specs.Owed.{test_of}
 use Rattle.final_rules.specs.Places.{nowhere, place_form}
 use Rattle.final_rules.specs.Printing.{scene_sites}
 use Rattle.lowering.specs.Nodes.{scene_buffers}
+use Rattle.lowering.specs.declared.words.Joint.{Joint}
+use Rattle.lowering.specs.declared.words.Joint.TheVariants as joint
+
+-- a word of two words
+abbrev pub joint_of : Joint → Wexp → Wexp → Wexp
+joint_of joint.Add a b = word.Add a b
+joint_of joint.Sub a b = word.Sub a b
+joint_of joint.Mul a b = word.Mul a b
 
 module _ (sc : Scene) (loops : ℕ) where
   -- the load of a read, at its place

@@ -1,11 +1,12 @@
 //! Leaves, and reads that are stored whole.
 
-ghost use Rattle.std.specs.Prelude.{◌≡◌, ◌≤◌, ◌++◌, ◌∷◌, [], IfOk, OnOk, drop, length, true};
+ghost use Rattle.std.specs.Prelude.{◌≡◌, ◌≤◌, ◌++◌, ◌∷◌, [], IfOk, List, OnOk, drop, false, length, true};
 ghost use Rattle.affine_index.specs.Put.{shifted};
 ghost use Rattle.fact_list.specs.Facts.{binders};
 ghost use Rattle.loop_lang.specs.declared.stmt.Stmt.TheVariants.{For, Seq};
 ghost use Rattle.reindexer.specs.Ready.{extents_ready};
 ghost use Rattle.final_rules.specs.Form.{each_shifted, one_deeper};
+ghost use Rattle.final_rules.specs.Places.{one_gen};
 ghost use Rattle.lowering_laws.specs.Lowered.{stored_by};
 ghost use Rattle.lowering.specs.Leaves.{full_read_if_in, full_read_in, leaf_in, stored_in};
 ghost use Rattle.lowering.specs.Made.{FullReadMade, FullReadMadeIf, ReadMade, StoreMade, WordMade};
@@ -20,6 +21,7 @@ use final_rules::spot::{binders, one_gen};
 use final_rules::{Read, Spot};
 use index_trees::index_tree;
 use loop_lang::{Buf, Iexp, Stmt, Wexp};
+use owned_values::two;
 use sqlite_items::{Boxed, Items};
 use std::alloc::{AllocError, Global};
 use term_tree::Term;
@@ -158,7 +160,48 @@ pub fn row(
     })
 }
 
+/// Adds a loop around statements, where there are both.
+fn looped(
+    alloc: Global,
+    all: &mut Items<Stmt>,
+    bound: Result<Iexp, AllocError>,
+    body: Result<Items<Stmt>, AllocError>,
+) -> Result<(), AllocError>
+    ensures { (n : Iexp) (ss : List Stmt) → IfOk bound (λ t. t ≡ n) → IfOk body (λ b. b ≡ ss) → OnOk result (all.new ≡ all.old ++ For n false (Seq ss) ∷ []) }
+{
+    let (bound, body) = two(bound, body)?;
+    row(alloc, all, bound, false, body)
+}
+
+/// A read under one more loop, of this extent.
+#[cycle(full_read)]
+fn inside(
+    alloc: Global,
+    scene: &Scene,
+    target: &Target,
+    adds: bool,
+    spot: &Spot,
+    extent: &Aff,
+    extents: &[Aff],
+    from: usize,
+    read: &Read,
+) -> Result<Items<Stmt>, AllocError>
+    requires few { length spot.now.path ≤ 2147483647 }
+    requires around { around_ready spot.now.around ≡ true }
+    requires extents { extents_ready target.now.extents ≡ true }
+    requires made { FullReadMade scene.now target.now (one_gen extent.now spot.now) (drop from extents.now) (one_deeper read.now) }
+    ensures { IfOk result (λ body. body ≡ full_read_in scene.now target.now adds (one_gen extent.now spot.now) (drop from extents.now) (one_deeper read.now)) }
+{
+    let (inner, read) = two(one_gen(alloc, spot, extent), one_deeper(alloc, read))?;
+    let mut body = Items::new(alloc);
+    full_read(
+        alloc, &mut body, scene, target, adds, &inner, extents, from, &read,
+    )?;
+    Ok(body)
+}
+
 /// Adds a read of these extents from one on: a loop for each, and a store of the full read inside.
+#[cycle(full_read)]
 pub fn full_read(
     alloc: Global,
     all: &mut Items<Stmt>,
@@ -179,21 +222,22 @@ pub fn full_read(
     if from >= extents.len() {
         return read_leaf(alloc, all, scene, target, adds, spot, read);
     }
-    let inner = one_gen(alloc, spot, &extents[from])?;
-    let read = one_deeper(alloc, read)?;
-    let mut body = Items::new(alloc);
-    full_read(
-        alloc,
-        &mut body,
-        scene,
-        target,
-        adds,
-        &inner,
-        extents,
-        from + 1,
-        &read,
-    )?;
+    let extent = &extents[from];
     let loops = binders(spot.path.as_slice()) as u32;
-    let bound = index_tree(alloc, loops, &extents[from])?;
-    row(alloc, all, bound, false, body)
+    looped(
+        alloc,
+        all,
+        index_tree(alloc, loops, extent),
+        inside(
+            alloc,
+            scene,
+            target,
+            adds,
+            spot,
+            extent,
+            extents,
+            from + 1,
+            read,
+        ),
+    )
 }

@@ -2,6 +2,7 @@
 
 ghost use Rattle.std.specs.Prelude.{◌≡◌, ◌≤◌, ◌++◌, ◌∷◌, [], All, IfOk, OnOk, length, map, pos, true};
 ghost use Rattle.affine_index.specs.Form.{literal_form};
+ghost use Rattle.index_trees.specs.Tree.{index_tree};
 ghost use Rattle.region_plan.specs.Needed.{words_form};
 ghost use Rattle.region_plan.specs.Shaped.{IsShaped};
 ghost use Rattle.shape_rules.specs.Scopes.{all_free, each_free, given};
@@ -62,6 +63,13 @@ fn output_node(alloc: Global, number: u32, paths: &[Path]) -> Result<Node, Alloc
     })
 }
 
+fn zero_tree(alloc: Global) -> Result<Iexp, AllocError>
+    ensures { IfOk result (λ t. t ≡ index_tree 0 (literal_form (pos 0))) }
+{
+    let zero = zero(alloc)?;
+    index_tree(alloc, 0, &zero)
+}
+
 /// The printed length of a tensor.
 fn words_tree(alloc: Global, extents: &[Aff]) -> Result<Iexp, AllocError>
     requires free { each_free extents.now ≡ true }
@@ -83,9 +91,7 @@ fn clear(
     requires made { IsMade (words_form extents.now) }
     ensures { OnOk result (all.new ≡ all.old ++ cleared_words number extents.now ∷ []) }
 {
-    let start = zero(alloc)?;
-    let start = index_tree(alloc, 0, &start)?;
-    let length = words_tree(alloc, extents)?;
+    let (start, length) = two(zero_tree(alloc), words_tree(alloc, extents))?;
     all.push(Stmt::Zero(Buf::Output(number), start, length))
 }
 

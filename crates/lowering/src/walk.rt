@@ -12,7 +12,7 @@ ghost use Rattle.final_rules.specs.Owed.{test_of};
 ghost use Rattle.final_rules.specs.Places.{extents_under};
 ghost use Rattle.lowering.specs.Leaves.{full_read_if_in};
 ghost use Rattle.lowering.specs.Made.{FullReadMadeIf, Ready};
-ghost use Rattle.lowering.specs.Nodes.{IsEnclosing, IsPlainPart, around_ready, cleared_in, definition_node, enclosed_in, loops_in, part_node};
+ghost use Rattle.lowering.specs.Nodes.{IsEnclosing, IsPlainPart, around_ready, cleared_in, definition_node, enclosed_in, loops_in, part_node, under_let};
 
 use crate::leaf::{full_read, leaf, row};
 use crate::marks::is_marked;
@@ -257,7 +257,7 @@ fn concat_loops(
     two_loops(alloc, all, scene, target, room, &left, &right, a, b)
 }
 
-/// The definition of a let.
+/// A fill for the definition of a let, and the definition.
 #[cycle(walk)]
 fn defined_loops(
     alloc: Global,
@@ -267,10 +267,12 @@ fn defined_loops(
     node: &Node,
     a: &Term,
 ) -> Result<(), AllocError>
-    requires { Ready scene.old definition.now.target definition.now.room (definition_node node.now) a.now }
-    ensures loops { OnOk result (all.new ≡ all.old ++ loops_in scene.old definition.now.target definition.now.room (definition_node node.now) a.now) }
+    requires few { length node.now.spot.path ≤ 2147483647 }
+    requires ready { Ready scene.old definition.now.target definition.now.room (definition_node node.now) a.now }
+    ensures loops { OnOk result (all.new ≡ (all.old ++ cleared_in (binders node.now.spot.path) definition.now ∷ []) ++ loops_in scene.old definition.now.target definition.now.room (definition_node node.now) a.now) }
     ensures scene { OnOk result (scene.new ≡ scene.old) }
 {
+    clear(alloc, all, &node.spot, definition)?;
     let first = definition_node(alloc, node)?;
     term_loops(
         alloc,
@@ -319,14 +321,32 @@ fn let_loops(
     ensures scene { OnOk result (scene.new ≡ scene.old) }
 {
     let definition = definition(alloc, scene, room, a)?;
-    clear(alloc, all, &node.spot, &definition)?;
     defined_loops(alloc, all, scene, &definition, node, a)?;
     let Definition {
         target: inner,
         room: behind,
     } = definition;
+    inside_let(alloc, all, scene, target, inner, &behind, node, b)
+}
+
+/// The body of a let whose tensor is stored there.
+#[cycle(walk)]
+fn inside_let(
+    alloc: Global,
+    all: &mut Items<Stmt>,
+    scene: &mut Scene,
+    target: &Target,
+    inner: Target,
+    room: &Room,
+    node: &Node,
+    b: &Term,
+) -> Result<(), AllocError>
+    requires { Ready (under_let inner.extents inner.offset scene.old) target.now room.now (part_node 1 node.now.adds node.now) b.now }
+    ensures loops { OnOk result (all.new ≡ all.old ++ loops_in (under_let inner.extents inner.offset scene.old) target.now room.now (part_node 1 node.now.adds node.now) b.now) }
+    ensures scene { OnOk result (scene.new ≡ scene.old) }
+{
     enter_let(alloc, scene, inner)?;
-    body_loops(alloc, all, scene, target, &behind, node, b)?;
+    body_loops(alloc, all, scene, target, room, node, b)?;
     leave_let(scene);
     Ok(())
 }

@@ -6,7 +6,7 @@ ghost use Rattle.final_rules.specs.Form.{read_under};
 ghost use Rattle.final_rules.specs.Owed.{test_of};
 ghost use Rattle.lowering.specs.Made.{ReadMade, ReadMadeIf, WordMade};
 ghost use Rattle.lowering.specs.Nodes.{buffers_under};
-ghost use Rattle.lowering.specs.Words.{chosen_in, loaded_if_in, loaded_in, word_in};
+ghost use Rattle.lowering.specs.Words.{chosen_in, joint_of, loaded_if_in, loaded_in, word_in};
 
 use crate::forms::read_tree;
 use affine_index::{Cmp, Cond, Rel};
@@ -118,6 +118,38 @@ pub fn tests(alloc: Global, loops: u32, cmps: &[Cmp]) -> Result<Items<Test>, All
     Ok(all)
 }
 
+/// The words of two parts.
+#[derive(Clone, Copy)]
+pub enum Joint {
+    Add,
+    Sub,
+    Mul,
+}
+
+/// A word of two words.
+fn joint_word(
+    alloc: Global,
+    joint: Joint,
+    words: Result<(Boxed<Wexp>, Boxed<Wexp>), AllocError>,
+) -> Result<Boxed<Wexp>, AllocError>
+    ensures { (a b : Wexp) → IfOk words (λ ws. (ws.0 ≡ a) × (ws.1 ≡ b)) → IfOk result (λ w. w ≡ joint_of joint a b) }
+{
+    let (a, b) = words?;
+    let word = match joint {
+        Joint::Add => Wexp::Add(a, b),
+        Joint::Sub => Wexp::Sub(a, b),
+        Joint::Mul => Wexp::Mul(a, b),
+    };
+    Boxed::new(alloc, word)
+}
+
+/// The word of an index.
+fn index_word(alloc: Global, tree: Result<Iexp, AllocError>) -> Result<Boxed<Wexp>, AllocError>
+    ensures { (x : Iexp) → IfOk tree (λ t. t ≡ x) → IfOk result (λ w. w ≡ Wexp.OfIndex x) }
+{
+    Boxed::new(alloc, Wexp::OfIndex(tree?))
+}
+
 /// Two words.
 #[cycle(word)]
 fn two_words(
@@ -171,24 +203,24 @@ pub fn word(
 {
     match term {
         Term::Lit(word) => Boxed::new(alloc, Wexp::Lit(*word)),
-        Term::WordOf(index) => {
-            let tree = index_tree(alloc, loops, index)?;
-            Boxed::new(alloc, Wexp::OfIndex(tree))
-        }
+        Term::WordOf(index) => index_word(alloc, index_tree(alloc, loops, index)),
         Term::TVar(_) | Term::Index(_, _) => read_word(alloc, scene, loops, term),
         Term::Guard(cond, part) => chosen(alloc, scene, loops, cond, part.get()),
-        Term::Add(a, b) => {
-            let (a, b) = two_words(alloc, scene, loops, a.get(), b.get())?;
-            Boxed::new(alloc, Wexp::Add(a, b))
-        }
-        Term::Sub(a, b) => {
-            let (a, b) = two_words(alloc, scene, loops, a.get(), b.get())?;
-            Boxed::new(alloc, Wexp::Sub(a, b))
-        }
-        Term::Mul(a, b) => {
-            let (a, b) = two_words(alloc, scene, loops, a.get(), b.get())?;
-            Boxed::new(alloc, Wexp::Mul(a, b))
-        }
+        Term::Add(a, b) => joint_word(
+            alloc,
+            Joint::Add,
+            two_words(alloc, scene, loops, a.get(), b.get()),
+        ),
+        Term::Sub(a, b) => joint_word(
+            alloc,
+            Joint::Sub,
+            two_words(alloc, scene, loops, a.get(), b.get()),
+        ),
+        Term::Mul(a, b) => joint_word(
+            alloc,
+            Joint::Mul,
+            two_words(alloc, scene, loops, a.get(), b.get()),
+        ),
         Term::Gen(_, _)
         | Term::Sum(_, _)
         | Term::Let(_, _)

@@ -1,9 +1,11 @@
-use Rattle.std.proofs.Common.{◌≡◌, ◌++◌, List, OnOk, ◌∙◌, arith, ap, subst, sym, true}
+use Rattle.std.proofs.Common.{◌≡◌, ◌++◌, ◌∷◌, [], List, OnOk, ◌∙◌, arith, ap, refl, subst, sym, true}
+use Rattle.fact_list.specs.Facts.{binders}
+use Rattle.final_rules.specs.declared.printing.Scene.{Scene}
 use Rattle.loop_lang.specs.declared.stmt.Stmt.{Stmt}
 use Rattle.lowering.specs.Made.{Ready}
 use Rattle.shape_rules.specs.Scopes.{given}
 use Rattle.lowering.specs.declared.node.Node.{Node}
-use Rattle.lowering.specs.Nodes.{loops_in, part_node, right_node, under_let}
+use Rattle.lowering.specs.Nodes.{cleared_in, loops_in, part_node, right_node, under_let}
 use Rattle.lowering.proofs.LeafLaws.{leaf-is, leaf-made, read-is, read-made}
 use Rattle.lowering.proofs.LoopLaws.{plain-is}
 use Rattle.lowering.proofs.NodeForms.{add-falls, add-of, concat-falls, concat-of, let-falls, let-of, plain-of, row-enclosing, sum-enclosing}
@@ -174,28 +176,55 @@ let_loops-definition-requires-clause-words t c =
 pub let_loops-defined_loops-requires : goal.let_loops-defined_loops-requires
 let_loops-defined_loops-requires t c = (
   falls c.decreases (omega arith),
-  definition-ready-at c.args.scene.now c.args.target.now c.args.room.now c.args.node.now c.args.a.now c.args.b.now c.requires c.in_ok-definition.definition
-      c.in_ok-definition.ensures,
+  (
+    c.requires.few,
+    definition-ready-at c.args.scene.now c.args.target.now c.args.room.now c.args.node.now c.args.a.now c.args.b.now c.requires
+        c.in_ok-definition.definition c.in_ok-definition.ensures,
+  ),
 )
 
-pub let_loops-body_loops-requires : goal.let_loops-body_loops-requires
-let_loops-body_loops-requires t c = (
-  falls c.decreases (omega arith),
-  body-ready-at c.args.scene.now c.args.target.now c.args.room.now c.args.node.now c.args.a.now c.args.b.now c.requires c.in_ok-definition.definition
-      c.in_ok-definition.ensures c.defined_loops.new.scene c.enter_let.new.scene (c.in_ok-defined_loops.ensures.scene)
-      (c.in_ok-enter_let.ensures {u = tt}),
-)
+pub let_loops-inside_let-requires : goal.let_loops-inside_let-requires
+let_loops-inside_let-requires t c =
+    let d = c.in_ok-definition.definition in (
+      falls c.decreases (omega arith),
+      body-ready-at c.args.scene.now c.args.target.now c.args.room.now c.args.node.now c.args.a.now c.args.b.now c.requires d c.in_ok-definition.ensures
+          c.defined_loops.new.scene (under_let d.target.extents d.target.offset c.defined_loops.new.scene) c.in_ok-defined_loops.ensures.scene refl,
+    )
 
 pub let_loops-returns-clause-loops : goal.let_loops-returns-clause-loops
 let_loops-returns-clause-loops t c =
-    let-is-at c.args.scene.now c.args.target.now c.args.room.now c.args.node.now c.args.a.now c.args.b.now c.in_ok-definition.definition
-    c.in_ok-definition.ensures c.defined_loops.new.scene c.enter_let.new.scene (c.in_ok-defined_loops.ensures.scene)
-    (c.in_ok-enter_let.ensures {u = tt}) c.args.all.now c.clear.new.all c.defined_loops.new.all c.body_loops.new.all (c.in_ok-clear.ensures {u = tt})
-    (c.in_ok-defined_loops.ensures.loops) (c.in_ok-body_loops.ensures.loops)
+    let d = c.in_ok-definition.definition in
+    let after = under_let d.target.extents d.target.offset c.defined_loops.new.scene in
+    let second = loops_in after c.args.target.now d.room (part_node 1 c.args.node.now.adds c.args.node.now) c.args.b.now in
+    let e = let-is-at c.args.scene.now c.args.target.now c.args.room.now c.args.node.now c.args.a.now c.args.b.now d c.in_ok-definition.ensures
+    c.defined_loops.new.scene after c.in_ok-defined_loops.ensures.scene refl c.args.all.now
+    (c.args.all.now ++ cleared_in (binders c.args.node.now.spot.path) d ∷ []) c.defined_loops.new.all (c.defined_loops.new.all ++ second) refl
+    c.in_ok-defined_loops.ensures.loops refl in
+    subst (λ (b : List Stmt). OnOk c.inside_let.result (c.inside_let.new.all ≡ b)) e c.inside_let.ensures.loops
 
 pub let_loops-returns-clause-scene : goal.let_loops-returns-clause-scene
 let_loops-returns-clause-scene t c =
-    let d = c.in_ok-definition.definition in
-    c.leave_let.ensures d.target.extents d.target.offset c.args.scene.now
-    (c.in_ok-body_loops.ensures.scene ∙ c.in_ok-enter_let.ensures {u = tt}
-    ∙ ap (under_let d.target.extents d.target.offset) (c.in_ok-defined_loops.ensures.scene))
+    subst (λ (s : Scene). OnOk c.inside_let.result (c.inside_let.new.scene ≡ s)) c.in_ok-defined_loops.ensures.scene c.inside_let.ensures.scene
+
+pub defined_loops-returns-clause-loops : goal.defined_loops-returns-clause-loops
+defined_loops-returns-clause-loops t c =
+    let d = c.args.definition.now in
+    subst (λ (b : List Stmt). OnOk c.term_loops.result (c.term_loops.new.all ≡ b))
+    (λ i. c.in_ok-clear.ensures {u = tt} i ++ loops_in c.args.scene.now d.target d.room (c.in_ok-first.ensures i) c.args.a.now) c.term_loops.ensures.loops
+
+pub inside_let-body_loops-requires : goal.inside_let-body_loops-requires
+inside_let-body_loops-requires t c = (
+  falls c.decreases (omega arith),
+  subst (λ (s : Scene). Ready s c.args.target.now c.args.room.now (part_node 1 c.args.node.now.adds c.args.node.now) c.args.b.now)
+      (sym (c.in_ok-enter_let.ensures {u = tt})) c.requires,
+)
+
+pub inside_let-returns-clause-loops : goal.inside_let-returns-clause-loops
+inside_let-returns-clause-loops t c =
+    c.in_ok-body_loops.ensures.loops
+    ∙ ap (λ (s : Scene). c.args.all.now ++ loops_in s c.args.target.now c.args.room.now (part_node 1 c.args.node.now.adds c.args.node.now) c.args.b.now)
+    (c.in_ok-enter_let.ensures {u = tt})
+
+pub inside_let-returns-clause-scene : goal.inside_let-returns-clause-scene
+inside_let-returns-clause-scene t c =
+    c.leave_let.ensures c.args.inner.extents c.args.inner.offset c.args.scene.now (c.in_ok-body_loops.ensures.scene ∙ c.in_ok-enter_let.ensures {u = tt})

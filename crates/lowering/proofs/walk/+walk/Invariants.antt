@@ -15,7 +15,10 @@ abbrev pub decreases-concat_loops : goal.decreases-concat_loops
 decreases-concat_loops l = 4 * (node_count l.a.now + node_count l.b.now) + 2
 
 abbrev pub decreases-let_loops : goal.decreases-let_loops
-decreases-let_loops l = 4 * (node_count l.a.now + node_count l.b.now) + 2
+decreases-let_loops l = 4 * (node_count l.a.now + node_count l.b.now) + 3
+
+abbrev pub decreases-inside_let : goal.decreases-inside_let
+decreases-inside_let l = 4 * node_count l.b.now + 2
 
 abbrev pub decreases-enclosed_loops : goal.decreases-enclosed_loops
 decreases-enclosed_loops l = 4 * node_count l.part.now + 1
