@@ -1,5 +1,6 @@
 pub mod ApplyLaws
 pub mod DraftLaws
+pub mod DropLaws
 pub mod InliningLaws
 pub mod LiftingLaws
 pub mod MovingLaws

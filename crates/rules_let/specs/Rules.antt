@@ -1,5 +1,6 @@
 -- The table by the names of the rules.
-use Rattle.std.specs.Prelude.{◌≡◌, List, Result, Err}
+use Rattle.std.specs.Prelude.{◌≡◌, false, List, Result, Err}
+use Rattle.binders.specs.Uses.{uses_tensor}
 use Rattle.path_focus.specs.Outcome.{Meant}
 use Rattle.path_focus.specs.declared.place.Focus.{Focus}
 use Rattle.path_focus.specs.declared.rule.Arg.{Arg}
@@ -7,9 +8,11 @@ use Rattle.path_focus.specs.declared.rule.Condition.{Condition}
 use Rattle.path_focus.specs.declared.rule.RuleFault.{RuleFault}
 use Rattle.path_focus.specs.declared.rule.RuleFault.TheVariants.{Memory}
 use Rattle.rules_let.specs.Table as table
+use Rattle.rules_let.specs.Table.{inlined}
 use Rattle.rules_let.specs.declared.rules.LetRule.{LetRule}
 use Rattle.rules_let.specs.declared.rules.LetRule.TheVariants.{LetIntro, LetInline, LetUse, LetOutOfGen, LetLiftGen, LetOutOfSum, LetIndex, LetGuard, LetLet}
 use Rattle.rules_let.specs.declared.rules.LetRule.TheVariants.{LetDrop, LetOp}
+use Rattle.term_tree.specs.declared.term.Term.{Term}
 
 -- what a rule makes of a focus and arguments
 abbrev pub rule_of : Focus → LetRule → List Arg → Meant
@@ -29,3 +32,7 @@ rule_of f LetOp = table.let_op f
 abbrev pub IsConditions : Result (List Condition) RuleFault → Result (List Condition) RuleFault → Type 0
 IsConditions want (Err Memory) = Unit {0}
 IsConditions want r = r ≡ want
+
+-- where the variable of a let does not occur, whatever is put for it leaves the same body
+abbrev pub DropsAlike : Type 0
+DropsAlike = (a c b : Term) → uses_tensor b 0 ≡ false → inlined a b ≡ inlined c b

@@ -1,6 +1,7 @@
 //! What each rule owes, as the contracts of functions that do nothing.
 
 ghost use Rattle.path_focus.specs.Outcome.{RuleKeeps};
+ghost use Rattle.rules_let.specs.Rules.{DropsAlike};
 ghost use Rattle.rules_let.specs.Table as table;
 
 /// A term is the variable of a let that it defines.
@@ -51,6 +52,11 @@ pub fn let_let_keeps()
 /// A let whose variable does not occur is its body.
 pub fn let_drop_keeps()
     ensures { RuleKeeps table.let_drop }
+{}
+
+/// A let that is dropped leaves the same body, whatever its definition is.
+pub fn dropped_lets_are_alike()
+    ensures { DropsAlike }
 {}
 
 /// A let in a child of an operator is a let around the operator.
