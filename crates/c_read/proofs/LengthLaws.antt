@@ -57,7 +57,7 @@ lawful_when false p rule goes_on l = lawful_as unexpected NoWords (λ ws x. (fal
 
 -- ---- no token is the end
 
-no-end-append : (ts us : List Token) → NoEnd ts → NoEnd us → NoEnd (ts ++ us)
+pub no-end-append : (ts us : List Token) → NoEnd ts → NoEnd us → NoEnd (ts ++ us)
 no-end-append [] us h g = g
 no-end-append (t ∷ ts) us h g = (h.0, no-end-append ts us h.1 g)
 
@@ -89,11 +89,11 @@ no-end-buffer (buf.Input n) = (λ e. cc, (λ e. cc, (λ e. cc, (λ e. cc, tt))))
 no-end-buffer (buf.Output n) = (λ e. cc, (λ e. cc, (λ e. cc, tt)))
 no-end-buffer (buf.Scratch n) = (λ e. cc, (λ e. cc, (λ e. cc, tt)))
 
-no-end-sizes : (s : ℕ) → NoEnd (sizes_words s)
+pub no-end-sizes : (s : ℕ) → NoEnd (sizes_words s)
 no-end-sizes zero = (λ e. cc, tt)
 no-end-sizes (suc n) = no-end-commas (map size_parameter (range_with_len 0 (suc n))) (each-map size_parameter (range_with_len 0 (suc n)) no-end-size)
 
-no-end-function : (p : Prog) → NoEnd (function_start p)
+pub no-end-function : (p : Prog) → NoEnd (function_start p)
 no-end-function p = (
   λ e. cc,
   (
@@ -124,7 +124,7 @@ no-end-by (t ∷ ts) h =
     let p = and_parts (not (is_end t.kind)) (has_no_end ts) h in
     (λ e. (let f : not (is_end t.kind) ≡ not (is_end k.End) = ap (λ kd. not (is_end kd)) e in absurd (let g = sym f ∙ p.0 in cc)), no-end-by ts p.1)
 
-no-end-heading : NoEnd heading_words
+pub no-end-heading : NoEnd heading_words
 unfolding is_end
 no-end-heading = no-end-by heading_words refl
 

@@ -1,13 +1,13 @@
 mod UntilLaws
 mod Joining
-mod Reading
-mod ReadingNumbers
-mod ReadingNames
+pub mod Reading
+pub mod ReadingNumbers
+pub mod ReadingNames
 mod GoesOn
 mod ExpressionLaws
 mod StatementLaws
-mod UnitLaws
-mod LengthLaws
+pub mod UnitLaws
+pub mod LengthLaws
 mod TextLaws
 pub mod WholeText
 pub mod Alone

@@ -1,4 +1,5 @@
--- The form of the programs that have a text, beside being well formed: each body is one sequence of statements that are no sequences, and the levels of C are enough.
+-- The form of the programs that have a text, beside being well formed: each body is one sequence of statements that are no sequences, and the levels of C
+-- are enough.
 use Rattle.std.specs.Prelude.{◌≡◌, ◌≤◌, ◌<◌, ◌+◌, ◌^◌, ℕ, zero, suc, Bool, List}
 use Rattle.loop_lang.specs.declared.index.Iexp.{Iexp}
 use Rattle.loop_lang.specs.declared.index.Test.{Test}

@@ -3,6 +3,7 @@
 ghost use Rattle.loop_lang.specs.Form.{IsWellFormed};
 ghost use Rattle.c_print.specs.Program.{canonical_text};
 ghost use Rattle.c_text.specs.Flat.{IsFlat};
+ghost use Rattle.c_text.specs.Printable.{IsPrintable};
 ghost use Rattle.c_text.specs.Statement.{CText, HasSmallNumbers};
 
 use loop_lang::Prog;
@@ -23,6 +24,15 @@ pub fn has_small_numbers(prog: &Prog) -> bool
 pub fn canonical_text_is_text(prog: &Prog)
     requires formed { IsWellFormed prog.now }
     requires flat { IsFlat prog.now }
+    ensures { CText (canonical_text prog.now) prog.now }
+{
+    let _ = has_small_numbers(prog);
+}
+
+/// The canonical text of a printable program is a text of that program.
+#[tactic(auto, using(crate::proofs::ReadsBack::printable_back))]
+pub fn printable_text_is_text(prog: &Prog)
+    requires printable { IsPrintable prog.now }
     ensures { CText (canonical_text prog.now) prog.now }
 {
     let _ = has_small_numbers(prog);
