@@ -5,4 +5,5 @@ mod Limits
 mod SizeTurns
 mod LengthTurns
 mod Heading
+mod Answer
 mod Whole

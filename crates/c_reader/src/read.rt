@@ -1,8 +1,9 @@
 //! C texts as loop programs.
 
-ghost use Rattle.std.specs.Prelude.{MatchResult};
+ghost use Rattle.std.specs.Prelude.{IfOk, MatchResult};
+ghost use Rattle.loop_lang.specs.Form.{IsWellFormed};
 ghost use Rattle.c_text.specs.Statement.{CText};
-ghost use Rattle.c_reader.specs.Fault.{IsFault};
+ghost use Rattle.c_reader.specs.Fault.{IsFault, IsOfNoOther, IsToldBy};
 
 use crate::fault::CFault;
 use crate::unit::whole;
@@ -11,10 +12,9 @@ use loop_lang::Prog;
 use reader_laws::ReadError;
 use std::alloc::Global;
 
-/// The program that a C text stands for, in time linear in its length.
 #[tactic(auto, unfolding(c_read::specs::Units::read_text), using(crate::proofs::Whole::whole_is))]
-pub fn read_c(alloc: Global, text: &[u8]) -> Result<Prog, CFault>
-    ensures { MatchResult result (λ p. CText text.now p) (λ f. IsFault text.now f) }
+fn told(alloc: Global, text: &[u8]) -> Result<Prog, CFault>
+    ensures { MatchResult result (λ p. CText text.now p) (λ f. IsToldBy text.now f) }
 {
     c_read::laws::text_reader_is_exact(text);
     let mut words = CWords::new(text);
@@ -23,4 +23,15 @@ pub fn read_c(alloc: Global, text: &[u8]) -> Result<Prog, CFault>
         Err(ReadError::Memory) => Err(CFault::Memory),
         Err(ReadError::Refused(_, at)) => Err(CFault::BadC { at }),
     }
+}
+
+/// The program that a C text stands for, in time linear in its length.
+pub fn read_c(alloc: Global, text: &[u8]) -> Result<Prog, CFault>
+    ensures value { MatchResult result (λ p. CText text.now p) (λ f. IsFault text.now f) }
+    ensures alone { IfOk result (λ p. IsOfNoOther text.now p) }
+    ensures formed { IfOk result (λ p. IsWellFormed p) }
+{
+    c_read::laws::text_reader_is_exact(text);
+    c_first_fault::laws::faults_are_first(text);
+    told(alloc, text)
 }
