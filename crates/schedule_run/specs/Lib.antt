@@ -1,3 +1,4 @@
+pub mod Conditions
 pub mod Names
 pub mod Verdict
 pub mod Versions

@@ -57,7 +57,7 @@ fn outside(module: &Module, focus: &Focus) -> u64
     all_nodes(module.outputs.as_slice()) - nodes(focus.term.get())
 }
 
-fn kind_of(fault: RuleFault, outside: u64) -> StepKind
+pub fn kind_of(fault: RuleFault, outside: u64) -> StepKind
     ensures { result ≡ step_fault outside fault }
 {
     match fault {
