@@ -1,4 +1,4 @@
-ghost use Rattle.std.specs.Prelude.{◌≡◌, ◌≤◌, [], ◌∷◌, length, true, All, IfOk, IfSome};
+ghost use Rattle.std.specs.Prelude.{◌≡◌, ◌≤◌, [], ◌∷◌, length, true, All, IfOk};
 ghost use Rattle.affine_index.specs.Form.{size_form, var_form};
 ghost use Rattle.path_focus.specs.Focus.{IsProper};
 ghost use Rattle.path_focus.specs.Laws.{IsLimited};
@@ -8,7 +8,8 @@ ghost use Rattle.term_tree.specs.Scope.{term_scoped};
 ghost use Rattle.term_tree.specs.declared.term.Term.TheVariants as variant;
 
 use admission::admit;
-use affine_index::{Aff, Cmp};
+use affine_index::{Aff, AffRefusal, Cmp};
+use owned_values::{spent, two};
 use path_focus::{Focus, PathRefusal, focus, plug};
 use sqlite_items::{Boxed, Items};
 use std::alloc::Global;
@@ -152,27 +153,6 @@ fn path(alloc: Global, output: u32, steps: &[u32]) -> Result<Path, Fail> {
     })
 }
 
-/// The focus at a place of the module, where it is found to be sound.
-fn found(
-    alloc: Global,
-    module: &Module,
-    output: u32,
-    steps: &[u32],
-) -> Result<Option<Result<Focus, PathRefusal>>, Fail>
-    requires scoped { module_scoped «module».now ≡ true }
-    requires limited { IsLimited «module».now }
-    requires assumes { «module».now.assumes ≡ [] }
-    requires outputs { length «module».now.outputs ≡ 1 }
-    requires example { length «module».now.example ≡ length «module».now.sizes }
-    ensures { IfOk result (λ o. IfSome o (λ f. IfOk f (λ f. IsProper f))) }
-{
-    let path = path(alloc, output, steps)?;
-    match admit(alloc, module) {
-        Ok(()) => Ok(Some(focus(alloc, module, &path))),
-        Err(_) => Ok(None),
-    }
-}
-
 /// Whether the facts that are listed at a place are just these.
 fn are_facts(alloc: Global, focus: &Focus, forms: &[Aff]) -> Result<bool, Fail>
     requires { IsProper focus.now }
@@ -195,53 +175,72 @@ fn are_facts(alloc: Global, focus: &Focus, forms: &[Aff]) -> Result<bool, Fail>
     Ok(true)
 }
 
+fn difference(
+    alloc: Global,
+    a: Result<Aff, AffRefusal>,
+    b: Result<Aff, AffRefusal>,
+) -> Result<Aff, AffRefusal> {
+    let (a, b) = two(a, b)?;
+    a.sub(alloc, &b)
+}
+
+/// `8 - N`
+fn high(alloc: Global) -> Result<Aff, AffRefusal> {
+    difference(alloc, Aff::literal(alloc, 8), Aff::size(alloc, 0))
+}
+
+/// `N - i - 1`
+fn below(alloc: Global) -> Result<Aff, AffRefusal> {
+    let rest = difference(alloc, Aff::size(alloc, 0), Aff::var(alloc, 0));
+    difference(alloc, rest, Aff::literal(alloc, 1))
+}
+
 /// `N >= 0`, `8 - N >= 0`, `i >= 0`, `N - i - 1 >= 0`
 fn expected(alloc: Global) -> Result<Items<Aff>, Fail> {
-    let n = Aff::size(alloc, 0)?;
-    let i = Aff::var(alloc, 0)?;
-    let below = n.sub(alloc, &i)?.sub(alloc, &Aff::literal(alloc, 1)?)?;
-    let high = Aff::literal(alloc, 8)?.sub(alloc, &n)?;
     let mut forms = Items::new(alloc);
-    forms.push(n)?;
-    forms.push(high)?;
-    forms.push(i)?;
-    forms.push(below)?;
+    forms.push(Aff::size(alloc, 0)?)?;
+    forms.push(high(alloc)?)?;
+    forms.push(Aff::var(alloc, 0)?)?;
+    forms.push(below(alloc)?)?;
     Ok(forms)
 }
 
-#[test]
-fn the_facts_below_a_generation(rt: HostRuntime) -> Result<(), Fail> {
-    let alloc = rt.alloc();
-    let module = module(alloc, copied(alloc)?)?;
-    let forms = expected(alloc)?;
-    match found(alloc, &module, 0, &[0])? {
-        Some(Ok(focus)) => {
-            assert!(rt; are_facts(alloc, &focus, forms.as_slice())?);
-            assert!(rt; focus.bound.is_empty());
-            assert_eq!(rt; nodes(focus.term.get()), 4);
+/// Whether there is a focus, and these are its facts.
+fn has_facts(alloc: Global, found: Result<Focus, PathRefusal>, forms: &[Aff]) -> Result<bool, Fail>
+    requires { IfOk found (λ f. IsProper f) }
+{
+    match found {
+        Ok(focus) => {
+            let same = are_facts(alloc, &focus, forms);
+            spent(focus);
+            same
         }
-        _ => assert!(rt; false),
+        Err(_) => Ok(false),
     }
-    Ok(())
 }
 
-#[test]
-fn a_path_to_no_node(rt: HostRuntime) -> Result<(), Fail> {
-    let alloc = rt.alloc();
-    let module = module(alloc, copied(alloc)?)?;
-    assert!(rt;
-        matches!(
-            found(alloc, &module, 0, &[0, 1])?,
-            Some(Err(PathRefusal::NoSuchPath))
-        )
-    );
-    assert!(rt;
-        matches!(
-            found(alloc, &module, 1, &[])?,
-            Some(Err(PathRefusal::NoSuchPath))
-        )
-    );
-    Ok(())
+/// Whether these are the facts at a place of the first output of a module that is found to be sound.
+fn facts_are(alloc: Global, module: &Module, steps: &[u32], forms: &[Aff]) -> Result<bool, Fail>
+    requires scoped { module_scoped «module».now ≡ true }
+    requires limited { IsLimited «module».now }
+    requires assumes { «module».now.assumes ≡ [] }
+    requires outputs { length «module».now.outputs ≡ 1 }
+    requires example { length «module».now.example ≡ length «module».now.sizes }
+{
+    let path = path(alloc, 0, steps)?;
+    match admit(alloc, module) {
+        Ok(()) => has_facts(alloc, focus(alloc, module, &path), forms),
+        Err(_) => Ok(false),
+    }
+}
+
+/// What the rows say of a focus.
+#[derive(Clone, Copy)]
+struct Seen {
+    nodes: u64,
+    bound: usize,
+    lets: usize,
+    moved: bool,
 }
 
 /// Whether one let is there, with tensor variable 1 as its definition.
@@ -252,16 +251,100 @@ fn is_moved(focus: &Focus) -> bool {
     }
 }
 
+fn look(found: Result<Focus, PathRefusal>) -> Result<Seen, PathRefusal> {
+    match found {
+        Ok(focus) => {
+            let seen = Seen {
+                nodes: nodes(focus.term.get()),
+                bound: focus.bound.len(),
+                lets: focus.shapes.lets.len(),
+                moved: is_moved(&focus),
+            };
+            spent(focus);
+            Ok(seen)
+        }
+        Err(refusal) => Err(refusal),
+    }
+}
+
+/// What is at a place of a module, where it is found to be sound.
+fn seen_at(
+    alloc: Global,
+    module: &Module,
+    output: u32,
+    steps: &[u32],
+) -> Result<Option<Result<Seen, PathRefusal>>, Fail>
+    requires scoped { module_scoped «module».now ≡ true }
+    requires limited { IsLimited «module».now }
+    requires assumes { «module».now.assumes ≡ [] }
+    requires outputs { length «module».now.outputs ≡ 1 }
+    requires example { length «module».now.example ≡ length «module».now.sizes }
+{
+    let path = path(alloc, output, steps)?;
+    match admit(alloc, module) {
+        Ok(()) => Ok(Some(look(focus(alloc, module, &path)))),
+        Err(_) => Ok(None),
+    }
+}
+
+fn seen_in_copied(
+    alloc: Global,
+    output: u32,
+    steps: &[u32],
+) -> Result<Option<Result<Seen, PathRefusal>>, Fail> {
+    let module = module(alloc, copied(alloc)?)?;
+    seen_at(alloc, &module, output, steps)
+}
+
+fn seen_in_named(alloc: Global, steps: &[u32]) -> Result<Option<Result<Seen, PathRefusal>>, Fail> {
+    let module = module(alloc, named(alloc)?)?;
+    seen_at(alloc, &module, 0, steps)
+}
+
+fn facts_below_a_generation(alloc: Global) -> Result<bool, Fail> {
+    let module = module(alloc, copied(alloc)?)?;
+    let forms = expected(alloc)?;
+    facts_are(alloc, &module, &[0], forms.as_slice())
+}
+
+#[test]
+fn the_facts_below_a_generation(rt: HostRuntime) -> Result<(), Fail> {
+    let alloc = rt.alloc();
+    assert!(rt; facts_below_a_generation(alloc)?);
+    match seen_in_copied(alloc, 0, &[0])? {
+        Some(Ok(seen)) => assert_eq!(rt; (seen.bound, seen.nodes), (0, 4)),
+        _ => assert!(rt; false),
+    }
+    Ok(())
+}
+
+#[test]
+fn a_path_to_no_node(rt: HostRuntime) -> Result<(), Fail> {
+    let alloc = rt.alloc();
+    assert!(rt;
+        matches!(
+            seen_in_copied(alloc, 0, &[0, 1])?,
+            Some(Err(PathRefusal::NoSuchPath))
+        )
+    );
+    assert!(rt;
+        matches!(
+            seen_in_copied(alloc, 1, &[])?,
+            Some(Err(PathRefusal::NoSuchPath))
+        )
+    );
+    Ok(())
+}
+
 #[test]
 fn in_a_definition_and_in_the_body_of_a_let(rt: HostRuntime) -> Result<(), Fail> {
     let alloc = rt.alloc();
-    let module = module(alloc, named(alloc)?)?;
-    match found(alloc, &module, 0, &[0])? {
-        Some(Ok(focus)) => assert!(rt; focus.bound.is_empty() && focus.shapes.lets.is_empty()),
+    match seen_in_named(alloc, &[0])? {
+        Some(Ok(seen)) => assert_eq!(rt; (seen.bound, seen.lets), (0, 0)),
         _ => assert!(rt; false),
     }
-    match found(alloc, &module, 0, &[1, 0])? {
-        Some(Ok(focus)) => assert!(rt; is_moved(&focus) && focus.shapes.lets.len() == 1),
+    match seen_in_named(alloc, &[1, 0])? {
+        Some(Ok(seen)) => assert!(rt; seen.moved && seen.lets == 1),
         _ => assert!(rt; false),
     }
     Ok(())
@@ -275,12 +358,32 @@ fn is_output(module: &Module, wanted: &Term) -> bool {
     }
 }
 
+/// Whether a module has this term as its one output.
+fn has_output(module: Result<Module, PathRefusal>, wanted: &Term) -> Result<bool, Fail> {
+    let module = module?;
+    let is = is_output(&module, wanted);
+    spent(module);
+    Ok(is)
+}
+
+/// Whether a tensor that is put for an inner generation is in its place.
+fn is_plugged(alloc: Global, module: &Module) -> Result<bool, Fail>
+    requires scoped { module_scoped «module».now ≡ true }
+    requires limited { IsLimited «module».now }
+    requires assumes { «module».now.assumes ≡ [] }
+    requires outputs { length «module».now.outputs ≡ 1 }
+    requires example { length «module».now.example ≡ length «module».now.sizes }
+{
+    let wanted = rows(alloc, row(alloc, tensor(alloc, 0)?)?)?;
+    let path = path(alloc, 0, &[0, 0])?;
+    let tensor = tensor(alloc, 0)?;
+    has_output(plug(alloc, module, &path, tensor), wanted.get())
+}
+
 #[test]
 fn a_term_in_place_of_another(rt: HostRuntime) -> Result<(), Fail> {
     let alloc = rt.alloc();
     let module = module(alloc, copied(alloc)?)?;
-    let plugged = plug(alloc, &module, &path(alloc, 0, &[0, 0])?, tensor(alloc, 0)?)?;
-    let wanted = rows(alloc, row(alloc, tensor(alloc, 0)?)?)?;
-    assert!(rt; is_output(&plugged, wanted.get()));
+    assert!(rt; is_plugged(alloc, &module)?);
     Ok(())
 }
