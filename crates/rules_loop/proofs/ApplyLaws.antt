@@ -21,7 +21,8 @@ use Rattle.path_focus.specs.declared.outcome.Outcome.TheVariants.{NoPattern, Wro
 use Rattle.path_focus.specs.declared.rule.Arg.{Arg}
 use Rattle.path_focus.specs.declared.rule.Arg.TheVariants.{Ix}
 use Rattle.path_focus.proofs.FocusMeaning.{facts_listed}
-use Rattle.rules_loop.specs.Patterns.{on_add, on_either, on_flatten, on_gen, on_index, on_sum, provided, on_mul, on_guard, on_some}
+use Rattle.rule_parts.specs.Patterns.{on_either, on_form, on_gen, on_guard, on_index, on_mul, on_sum, provided}
+use Rattle.rules_loop.specs.Patterns.{on_add, on_flatten}
 use Rattle.rules_loop.specs.Rules.{rule_of}
 use Rattle.rules_loop.specs.declared.rules.LoopRule.{LoopRule}
 use Rattle.rules_loop.specs.declared.rules.LoopRule.TheVariants.{Beta, Eta, SwapGen, CutGen, SwapSum, CutSum, SumGen, GenSum, SumIndex, SumAdd}
@@ -30,7 +31,7 @@ use Rattle.rules_loop.specs.declared.rules.LoopRule.TheVariants.{SumPick, Uneta,
 use Rattle.rules_loop.specs.Tilings.{divides, tile_of, with_number, with_tile}
 use Rattle.rules_loop.specs.Cuts.{further, with_cut, within_extent}
 use Rattle.rules_loop.specs.OneTurn.{equation, solved}
-use Rattle.rules_loop.specs.Raising.{first_extent}
+use Rattle.rule_parts.specs.Patterns.{first_extent}
 use Rattle.rules_loop.proofs.BetaLaw.{beta_keeps}
 use Rattle.rules_loop.proofs.CutLaws.{cut_gen_keeps, cut_sum_keeps}
 use Rattle.rules_loop.proofs.EtaLaws.{eta_keeps}
@@ -74,9 +75,9 @@ at_guard : (t : Term) (f : Cond → Term → Meant) → ((c : Cond) (e : Term) �
 at_guard (guard c e) f h = h c e
 at_guard _ f h = tt
 
-at_some : (o : Option Items) (f : Items → Meant) → ((n : Items) → MeantListed (f n)) → MeantListed (on_some o f)
-at_some (Some n) f h = h n
-at_some None f h = tt
+at_form : (o : Option Items) (f : Items → Meant) → ((n : Items) → MeantListed (f n)) → MeantListed (on_form o f)
+at_form (Some n) f h = h n
+at_form None f h = tt
 
 at_either : (t : Term) (f g : Term → Term → Meant) → ((a b : Term) → MeantListed (f a b)) → ((a b : Term) → MeantListed (g a b)) → MeantListed (on_either t f g)
 at_either (add a b) f g h k = h a b
@@ -149,8 +150,8 @@ listed f p FuseGen as' =
     at_flatten f.term _ (λ e. at_gen e _ (λ n d. at_gen d _ (λ m b. with_number_of (tile_of m) Unlike _ tt (λ k. with_none as' _ no_conditions))))
 listed f p SumOne as' = at_sum f.term _ (λ n b. if_provided _ _ (with_none as' _ no_conditions))
 listed f p SumPick as' =
-    at_sum f.term _ (λ n e. at_guard e _ (λ c b. at_some (equation c.all) _ (λ g. at_some (solved g) _ (λ x. with_none as' _ (each_listed f p n x)))))
-listed f p Uneta as' = at_some (first_extent (shape_of f.term (given f.shapes))) _ (λ n. with_none as' _ no_conditions)
+    at_sum f.term _ (λ n e. at_guard e _ (λ c b. at_form (equation c.all) _ (λ g. at_form (solved g) _ (λ x. with_none as' _ (each_listed f p n x)))))
+listed f p Uneta as' = at_form (first_extent (shape_of f.term (given f.shapes))) _ (λ n. with_none as' _ no_conditions)
 listed f p MulIntoSum as' = at_mul f.term _ (λ a e. at_sum e _ (λ n b. with_none as' _ no_conditions))
 
 made_listed : (m : Meant) (o : Outcome) → MeantListed m → IsOutcome m o → MadeListed o

@@ -1,11 +1,10 @@
 -- Drafts of terms of two parts.
-use Rattle.std.proofs.Common.{◌≡◌, ℕ, ◌+◌, ◌-◌, ◌^◌, refl, sym, ◌∙◌, arith, Bool, true, false, ◌&&◌}
+use Rattle.std.proofs.Common.{◌≡◌, ℕ, ◌+◌, ◌-◌, ◌^◌, refl, ◌∙◌, arith, Bool, true, false, ◌&&◌}
 use Rattle.std.specs.Prelude.{min}
 use Rattle.std.proofs.lemmas.Bool.{and_from}
-use Rattle.affine_index.specs.Normal.{Refused, is_normal, is_short}
+use Rattle.affine_index.specs.Normal.{is_normal, is_short}
 use Rattle.affine_index.specs.Normal.{coefficients_fit as form_fits}
 use Rattle.affine_index.specs.declared.form.Items.{Items}
-use Rattle.affine_index.specs.declared.refusal.AffRefusal.TheVariants.{CoefficientTooLarge}
 use Rattle.binders.proofs.NormalLaws.{fits_of, short_of}
 use Rattle.term_tree.specs.Counts.{node_count}
 use Rattle.term_tree.specs.Limits.{coefficients_fit, every_form, form_step, forms_short}
@@ -14,8 +13,7 @@ use Rattle.term_tree.specs.declared.term.Term.{Term}
 use Rattle.term_tree.proofs.Folds.{fold-add, fold-concat, fold-gen, fold-mul, fold-sum}
 use Rattle.term_tree.proofs.FormLaws.{every_form-weaker}
 use Rattle.path_focus.specs.Outcome.{IsDraft}
-use Rattle.path_focus.specs.declared.outcome.Draft.{Draft}
-use Rattle.path_focus.specs.declared.outcome.Draft.TheVariants.{Whole, TooLarge, TooLong, TooMany}
+use Rattle.path_focus.specs.declared.outcome.Draft.TheVariants.{TooLarge, TooLong, TooMany}
 
 -- a term of so many nodes more, and no new form beyond the limits
 module _ (raw big : Term) (more : ℕ) (fits : coefficients_fit big ≡ coefficients_fit raw) (short : forms_short big ≡ forms_short raw)

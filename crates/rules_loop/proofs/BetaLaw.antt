@@ -31,9 +31,9 @@ use Rattle.path_focus.proofs.MakingLaws.{below_rest, value-rest_below, with_inde
 use Rattle.path_focus.proofs.MakingLaws.{with_index-shape}
 use Rattle.path_focus.proofs.ShapeSteps.{same_shape_there}
 use Rattle.path_focus.proofs.SteadyLaws.{steady_of}
-use Rattle.rules_loop.proofs.Replacing.{Replaces, replaced}
-use Rattle.rules_loop.proofs.ShapeLaws.{never}
-use Rattle.rules_loop.specs.Patterns.{on_gen}
+use Rattle.rule_parts.proofs.Replacing.{Replaces, replaced}
+use Rattle.rule_parts.proofs.Replacing.{never}
+use Rattle.rule_parts.specs.Patterns.{on_gen}
 use Rattle.rules_loop.specs.Table.{beta}
 
 -- the shape of a gen at an index is that of its body

@@ -30,7 +30,7 @@ use Rattle.shape_rules.specs.Scopes.{given}
 use Rattle.term_tree.specs.Limits.{every_form, form_step}
 use Rattle.term_tree.specs.Meaning.{Bound, count_of, den, dims, extent, extents_of}
 use Rattle.term_tree.specs.Scope.{term_scoped}
-use Rattle.term_tree.specs.Shape.{Extents, Shaped, here, limited, of_concat, of_equal, same_forms, shape_of, with_child}
+use Rattle.term_tree.specs.Shape.{Extents, Shaped, here, limited, of_concat, same_forms, shape_of, with_child}
 use Rattle.term_tree.specs.Syntax.{add, concat, gen, sum}
 use Rattle.term_tree.specs.Tensors.{Tensor, from_rows, plus_places, tabulate, total, zeros}
 use Rattle.term_tree.specs.declared.cause.Cause.TheVariants.{RankMismatch, ShapesDiffer}
@@ -51,7 +51,8 @@ use Rattle.path_focus.proofs.SteadyLaws.{steady_of}
 use Rattle.rules_loop.specs.Cuts.{further, moved_by, outside, with_cut, within_extent}
 use Rattle.rules_loop.specs.Table.{cut_gen, cut_sum}
 use Rattle.rules_loop.proofs.CancelLaws.{sum-difference}
-use Rattle.rules_loop.proofs.ShapeLaws.{equals, never, rows, summed, within}
+use Rattle.rule_parts.proofs.Replacing.{never}
+use Rattle.rules_loop.proofs.ShapeLaws.{equals, rows, summed, within}
 use Rattle.rules_loop.proofs.SwapLaws.{var-scoped}
 use Rattle.rules_loop.proofs.WiderLaws.{wider}
 

@@ -1,25 +1,17 @@
 -- Drafts of terms that are made of others.
-use Rattle.std.proofs.Common.{◌≡◌, ℕ, ◌+◌, ◌-◌, ◌^◌, List, refl, sym, ◌∙◌, subst, arith, Bool, true, ◌&&◌}
+use Rattle.std.proofs.Common.{◌≡◌, ℕ, ◌+◌, ◌-◌, ◌^◌, refl, ◌∙◌, arith, Bool, true, ◌&&◌}
 use Rattle.std.specs.Prelude.{min}
 use Rattle.affine_index.specs.Normal.{is_normal, is_short}
 use Rattle.affine_index.specs.Normal.{coefficients_fit as form_fits}
 use Rattle.affine_index.specs.declared.form.Items.{Items}
 use Rattle.binders.proofs.NormalLaws.{fits_of, short_of}
 use Rattle.term_tree.specs.Counts.{node_count}
-use Rattle.term_tree.specs.Limits.{coefficients_fit, every_form, form_step, forms_short}
+use Rattle.term_tree.specs.Limits.{coefficients_fit, form_step, forms_short}
 use Rattle.term_tree.specs.Syntax.{flatten, gen, sum, transpose}
 use Rattle.term_tree.specs.declared.term.Term.{Term}
 use Rattle.term_tree.proofs.Folds.{fold-flatten, fold-gen, fold-sum, fold-transpose}
-use Rattle.term_tree.proofs.FormLaws.{every_form-weaker}
-use Rattle.path_focus.specs.Outcome.{IsDraft, IsOutcome, Makes, Meant, Unfit, Unlike}
-use Rattle.path_focus.specs.declared.outcome.Draft.TheVariants.{Whole, TooLarge, TooLong, TooMany}
-use Rattle.path_focus.specs.declared.outcome.Outcome.TheVariants.{NoPattern, WrongArgument, Made}
-use Rattle.path_focus.specs.declared.outcome.Rewrite.{Rewrite}
-use Rattle.path_focus.specs.declared.rule.Condition.{Condition}
-
--- a term whose forms are normal
-pub whole_is : (e x : Term) → x ≡ e → every_form is_normal e ≡ true → IsDraft e (Whole x)
-whole_is e x q h = (q, every_form-weaker is_normal form_fits fits_of e h, every_form-weaker is_normal is_short short_of e h)
+use Rattle.path_focus.specs.Outcome.{IsDraft}
+use Rattle.path_focus.specs.declared.outcome.Draft.TheVariants.{TooLarge, TooLong, TooMany}
 
 -- a term of one node more, and no new form beyond the limits
 module _ (raw big : Term) (fits : coefficients_fit big ≡ coefficients_fit raw) (short : forms_short big ≡ forms_short raw)
@@ -96,15 +88,4 @@ module _ (raw : Term) where
   pub flatten_many : (k m : ℕ) → m ≡ min (k + 1) (2 ^ 64 - 1) → IsDraft raw (TooMany k) → IsDraft (flatten raw) (TooMany m)
   flatten_many = grows_many raw (flatten raw) flatten-fits flatten-short refl
 
--- a pattern or arguments that do not fit
-pub unlike : (m : Meant) → m ≡ Unlike → IsOutcome m NoPattern
-unlike m e = subst (λ (m : Meant). IsOutcome m NoPattern) (sym e) tt
-
-pub unfit : (m : Meant) → m ≡ Unfit → IsOutcome m WrongArgument
-unfit m e = subst (λ (m : Meant). IsOutcome m WrongArgument) (sym e) tt
-
 pub ruleset draft_laws = (gen_large, gen_long, gen_many, sum_large, sum_long, sum_many, transpose_large, transpose_long, transpose_many)
-
--- what is made as the table says
-pub makes : (m : Meant) (raw : Term) (cs : List Condition) (w : Rewrite) → m ≡ Makes raw cs → w.conditions ≡ cs → IsDraft raw w.draft → IsOutcome m (Made w)
-makes m raw cs w e h k = subst (λ (m : Meant). IsOutcome m (Made w)) (sym e) (h, k)

@@ -43,10 +43,12 @@ use Rattle.path_focus.specs.declared.place.Focus.{Focus}
 use Rattle.path_focus.specs.declared.rule.Arg.{Arg}
 use Rattle.path_focus.proofs.MakingLaws.{with_index-extents, with_index-goals, with_index-means, with_index-scoped, with_index-shape}
 use Rattle.path_focus.proofs.ShapeSteps.{same_shape_there}
-use Rattle.rules_loop.proofs.Replacing.{Replaces, Stands, anywhere, replaced_anywhere}
+use Rattle.rule_parts.proofs.Replacing.{Replaces, Stands, anywhere, replaced_anywhere}
 use Rattle.rules_loop.proofs.RowLaws.{rows_again}
-use Rattle.rules_loop.proofs.ShapeLaws.{never, within}
-use Rattle.rules_loop.specs.Patterns.{is_first, on_index, provided}
+use Rattle.rule_parts.proofs.Replacing.{never}
+use Rattle.rules_loop.proofs.ShapeLaws.{within}
+use Rattle.rule_parts.specs.Patterns.{on_index, provided}
+use Rattle.rules_loop.specs.Patterns.{is_first}
 use Rattle.rules_loop.specs.Table.{eta}
 
 -- what stands at each row is the row
@@ -107,7 +109,7 @@ module _ (f : Focus) (p : IsProper f) where
       scoped = λ c. with_index-scoped sizes vars tensors (literal_form (pos 0)) a (literal-scoped sizes vars 0) scope.1;
       extents = λ s ds w. with_index-extents (literal_form (pos 0)) a s ds ∙ extents_are s ds w;
       goals = λ s ds w. with_index-goals (literal_form (pos 0)) a s ds w.goals.1;
-      meaning = λ s r t k h w. same_rows s r t h w;
+      meaning = λ s r t k h w. same_rows s r t h.shaped w;
       shape = λ h.
           let e : shape_of (gen n (index a (var_form 0))) (given f.shapes) ≡ limited (n ∷ ms) =
           λ i. with_child 0 (with_child 0 (shaped i) row_shape) (λ ns. limited (n ∷ ns)) in

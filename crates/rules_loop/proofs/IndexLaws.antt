@@ -29,10 +29,10 @@ use Rattle.path_focus.specs.Focus.{IsProper}
 use Rattle.path_focus.specs.Outcome.{Makes, MeantKeeps, RuleKeeps, without_arguments}
 use Rattle.path_focus.specs.declared.place.Focus.{Focus}
 use Rattle.path_focus.specs.declared.rule.Arg.{Arg}
-use Rattle.rules_loop.proofs.Replacing.{Replaces, anywhere, replaced_anywhere}
+use Rattle.rule_parts.proofs.Replacing.{Replaces, anywhere, replaced_anywhere}
 use Rattle.rules_loop.proofs.RowLaws.{row_at_by_places, row_of_total, zeros_left}
 use Rattle.rules_loop.proofs.ShapeLaws.{rows_of_equal, summed_row}
-use Rattle.rules_loop.specs.Patterns.{on_either, on_sum}
+use Rattle.rule_parts.specs.Patterns.{on_either, on_sum}
 use Rattle.rules_loop.specs.Table.{add_index, sum_index}
 
 -- rows of what is made by places, where the extents are known to be of rank 1 or more
@@ -94,7 +94,7 @@ module _ (f : Focus) (x : Items) (a b : Term) where
         (length (given f.shapes))) (items_scoped (length f.facts.sizes) (binders f.facts.path) x) c;
     extents = λ s ds w. refl;
     goals = λ s ds w. w.goals;
-    meaning = λ s r t k h w. added_rows s r t h w.fits;
+    meaning = λ s r t k h w. added_rows s r t h.shaped w.fits;
     shape = λ h. rows_of_equal (shape_of a (given f.shapes)) (shape_of b (given f.shapes)) h;
   }
 
@@ -105,7 +105,7 @@ module _ (f : Focus) (x : Items) (a b : Term) where
         (length (given f.shapes))) (items_scoped (length f.facts.sizes) (binders f.facts.path) x) c;
     extents = λ s ds w. refl;
     goals = λ s ds w. w.goals;
-    meaning = λ s r t k h w. subtracted_rows s r t h w.fits;
+    meaning = λ s r t k h w. subtracted_rows s r t h.shaped w.fits;
     shape = λ h. rows_of_equal (shape_of a (given f.shapes)) (shape_of b (given f.shapes)) h;
   }
 
@@ -148,7 +148,7 @@ module _ (f : Focus) (n x : Items) (b : Term) (ordered : is_ordered x ≡ true) 
         (raised-scoped (length f.facts.sizes) (binders f.facts.path) x) c;
     extents = λ s ds w. refl;
     goals = λ s ds w. w.goals;
-    meaning = λ s r t k h w. summed_rows_meaning s r t h w.fits;
+    meaning = λ s r t k h w. summed_rows_meaning s r t h.shaped w.fits;
     shape = λ h. summed_row (shape_of b (given f.shapes)) h;
   }
 

@@ -16,7 +16,6 @@ pub mod PatternLaws
 pub mod PickLaws
 pub mod ProductLaws
 pub mod ReachLaws
-pub mod Replacing
 pub mod RowLaws
 pub mod ShapeLaws
 pub mod SumLaws
@@ -28,3 +27,4 @@ pub mod TilingLaws
 pub mod TurnReach
 pub mod UnetaLaws
 pub mod WiderLaws
+pub mod WordProducts

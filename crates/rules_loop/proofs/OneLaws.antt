@@ -11,7 +11,7 @@ use Rattle.affine_index.proofs.ReadyLaws.{scoped-items}
 use Rattle.affine_index.proofs.Values.{value-literal}
 use Rattle.binders.proofs.Substitution.{AllOrdered}
 use Rattle.fact_list.specs.Facts.{binders}
-use Rattle.shape_rules.specs.Fits.{AllShaped, AllWords}
+use Rattle.shape_rules.specs.Fits.{LiteralsFit}
 use Rattle.shape_rules.specs.Scopes.{given}
 use Rattle.shape_rules.proofs.DenShape.{den_shape}
 use Rattle.shape_rules.proofs.DenWords.{den_words}
@@ -25,16 +25,16 @@ use Rattle.term_tree.specs.Syntax.{sum}
 use Rattle.term_tree.specs.Tensors.{End, Row, Tensor, Word, copies, from_rows, plus_places, tabulate, total, zeros}
 use Rattle.term_tree.specs.declared.term.Term.{Term}
 use Rattle.term_tree.proofs.Folds.{fold-sum}
-use Rattle.path_focus.specs.Focus.{IsProper}
+use Rattle.path_focus.specs.Focus.{IsProper, Reached}
 use Rattle.path_focus.specs.Making.{lowered}
 use Rattle.path_focus.specs.Outcome.{Makes, MeantKeeps, RuleKeeps, without_arguments}
 use Rattle.path_focus.specs.declared.place.Focus.{Focus}
 use Rattle.path_focus.specs.declared.rule.Arg.{Arg}
 use Rattle.path_focus.proofs.MakingLaws.{with_index-extents, with_index-goals, with_index-means, with_index-scoped, with_index-shape}
 use Rattle.path_focus.proofs.ShapeSteps.{same_shape_there}
-use Rattle.rules_loop.proofs.Replacing.{ReplacesWords, Stands, anywhere, replaced_words}
-use Rattle.rules_loop.proofs.ShapeLaws.{first_ok, handed_on}
-use Rattle.rules_loop.specs.Patterns.{provided}
+use Rattle.rule_parts.proofs.Replacing.{Replaces, Stands, anywhere, replaced_anywhere}
+use Rattle.rule_parts.proofs.ShapeLaws.{first_ok, handed_on}
+use Rattle.rule_parts.specs.Patterns.{provided}
 use Rattle.rules_loop.specs.OneTurn.{sum_one}
 
 word_plus_none : (w : ℕ) → w < 2 ^ 64 → (w + 0) % 2 ^ 64 ≡ w
@@ -66,18 +66,19 @@ one_extent s = ap count_of (value-literal s [] (pos 1))
 abbrev nothing : Items
 nothing = literal_form (pos 0)
 
-module _ (f : Focus) (b : Term) (ordered : AllOrdered b) where
+module _ (f : Focus) (b : Term) (ordered : AllOrdered b) (literals : LiteralsFit b) where
   abbrev once : Term
   once = sum (literal_form (pos 1)) b
 
-  one_turn : (s r : List ℕ) (t : List Bound) → AllShaped t → AllWords t → Stands f once s (extents_of t) → den (lowered b) s r t ≡ den once s r t
-  one_turn s r t h u w =
+  one_turn : (s r : List ℕ) (t : List Bound) → Reached f s r t → Stands f once s (extents_of t) → den (lowered b) s r t ≡ den once s r t
+  one_turn s r t h w =
       let d = dims b s (extents_of t) in
       with_index-means b ordered s nothing (literal-ordered (pos 0)) 0 r t (value-literal s r (pos 0))
       ∙ sym ((λ i. total (zeros d) (tabulate (one_extent s i) (λ k. den b s (k ∷ r) t)))
-      ∙ plus_zeros d (den b s (0 ∷ r) t) (den_shape b s (0 ∷ r) t w.fits h) (den_words b s (0 ∷ r) t w.literals u))
+      ∙ plus_zeros d (den b s (0 ∷ r) t) (den_shape b s (0 ∷ r) t w.fits h.shaped)
+      (den_words b s (0 ∷ r) t literals h.words))
 
-  one_replaced : ReplacesWords f anywhere once (lowered b)
+  one_replaced : Replaces f anywhere once (lowered b)
   one_replaced = record {
     scoped = λ c.
         let sizes = length f.facts.sizes in
@@ -87,7 +88,7 @@ module _ (f : Focus) (b : Term) (ordered : AllOrdered b) where
         (and_parts (items_scoped sizes 0 (literal_form (pos 1))) (term_scoped sizes b (vars + 1) tensors) c).1;
     extents = λ s ds w. with_index-extents nothing b s ds;
     goals = λ s ds w. with_index-goals nothing b s ds w.goals.1;
-    meaning = λ s r t k h u w. one_turn s r t h u w;
+    meaning = λ s r t k h w. one_turn s r t h w;
     shape = λ h.
         let x = shape_of b (given f.shapes) in
         same_shape_there (shape_of once (given f.shapes)) (shape_of (lowered b) (given f.shapes)) h
@@ -101,8 +102,8 @@ sum_one_if : (f : Focus) → IsProper f → AllOrdered f.term → (n : Items) (b
     → same_form n (literal_form (pos 1)) ≡ c → MeantKeeps f (provided c (without_arguments as' (Makes (lowered b) [])))
 sum_one_if f p o n b q [] true e =
     let g : n ≡ literal_form (pos 1) = same_form-equal n (literal_form (pos 1)) e in
-    replaced_words f p (sum (literal_form (pos 1)) b) (lowered b) (q ∙ (λ i. sum (g i) b)) anywhere [] (λ g s r h. tt)
-    (one_replaced f b (term_ordered n b (subst AllOrdered q o)))
+    replaced_anywhere f p (sum (literal_form (pos 1)) b) (lowered b) (q ∙ (λ i. sum (g i) b))
+    (one_replaced f b (term_ordered n b (subst AllOrdered q o)) (subst LiteralsFit q p.literals))
 sum_one_if f p o n b q (x ∷ as') true e = tt
 sum_one_if f p o n b q as' false e = tt
 

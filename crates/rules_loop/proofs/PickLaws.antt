@@ -14,7 +14,7 @@ use Rattle.affine_index.specs.Condition.{all_hold, all_scoped}
 use Rattle.affine_index.specs.Form.{literal_form, var_form}
 use Rattle.affine_index.specs.Limited.{items_scoped}
 use Rattle.affine_index.specs.Normal.{is_normal, is_ordered}
-use Rattle.affine_index.specs.Put.{one_by, one_given, put_var, shifted}
+use Rattle.affine_index.specs.Put.{one_by, one_given, shifted}
 use Rattle.affine_index.specs.Sum.{difference_of, scaled, sum_of}
 use Rattle.affine_index.specs.Value.{items_value}
 use Rattle.affine_index.specs.declared.cond.Cmp.{Cmp}
@@ -23,7 +23,6 @@ use Rattle.affine_index.specs.declared.cond.Cond.{Cond}
 use Rattle.affine_index.specs.declared.form.Items.{Items}
 use Rattle.affine_index.proofs.ArithmeticLaws.{normal-ordered}
 use Rattle.affine_index.proofs.FormScopes.{form-of, of-form, scaled-form, sum-form}
-use Rattle.affine_index.proofs.ReadyLaws.{scoped-items}
 use Rattle.affine_index.proofs.ScopedForms.{put_all-scoped}
 use Rattle.affine_index.proofs.SumValue.{int_eq-zero, sum_of-value}
 use Rattle.affine_index.proofs.Values.{value-difference, value-literal}
@@ -31,7 +30,7 @@ use Rattle.binders.proofs.PlainLaws.{value-lifted, value-var_form}
 use Rattle.binders.proofs.Substitution.{AllOrdered}
 use Rattle.binders.proofs.Sums.{total-one_place, zeros_idempotent}
 use Rattle.fact_list.specs.Facts.{binders, where_normal}
-use Rattle.shape_rules.specs.Fits.{AllShaped, AllWords}
+use Rattle.shape_rules.specs.Fits.{LiteralsFit}
 use Rattle.shape_rules.specs.Scopes.{given}
 use Rattle.shape_rules.proofs.DenShape.{den_shape}
 use Rattle.shape_rules.proofs.DenWords.{den_words}
@@ -41,10 +40,10 @@ use Rattle.term_tree.specs.Meaning.{Bound, den, dims, extent, extents_of}
 use Rattle.term_tree.specs.Scope.{cond_scoped, is_empty, term_scoped}
 use Rattle.term_tree.specs.Shape.{same_form, shape_of}
 use Rattle.term_tree.specs.Syntax.{guard, sum}
-use Rattle.term_tree.specs.Tensors.{Tensor, plus_places, tabulate, total, zeros}
+use Rattle.term_tree.specs.Tensors.{Tensor, plus_places, zeros}
 use Rattle.term_tree.specs.declared.term.Term.{Term}
 use Rattle.term_tree.proofs.Folds.{fold-guard, fold-sum}
-use Rattle.path_focus.specs.Focus.{IsProper}
+use Rattle.path_focus.specs.Focus.{IsProper, Reached}
 use Rattle.path_focus.specs.Making.{one_of_rows, with_index}
 use Rattle.path_focus.specs.Outcome.{Makes, MeantKeeps, RuleKeeps, without_arguments}
 use Rattle.path_focus.specs.declared.place.Focus.{Focus}
@@ -53,11 +52,12 @@ use Rattle.path_focus.proofs.MakingLaws.{with_index-extents, with_index-goals, w
 use Rattle.path_focus.proofs.ShapeSteps.{same_shape_there}
 use Rattle.rules_loop.proofs.BetaLaw.{IsRow, is_row}
 use Rattle.rules_loop.proofs.OneLaws.{literal-scoped, plus_zeros}
-use Rattle.rules_loop.proofs.Replacing.{ReplacesWords, Stands, replaced_words}
-use Rattle.rules_loop.proofs.ShapeLaws.{first_ok, handed_on, summed}
+use Rattle.rule_parts.proofs.Replacing.{Replaces, Stands, replaced}
+use Rattle.rule_parts.proofs.ShapeLaws.{first_ok, handed_on}
+use Rattle.rules_loop.proofs.ShapeLaws.{summed}
 use Rattle.rules_loop.proofs.SwapLaws.{var-scoped}
 use Rattle.rules_loop.specs.OneTurn.{at_zero, equation, solution, solved, solved_from, sum_pick}
-use Rattle.rules_loop.specs.Patterns.{on_guard, on_some}
+use Rattle.rule_parts.specs.Patterns.{on_form, on_guard}
 
 -- ---- the value of the form of an equation at each turn
 
@@ -190,7 +190,8 @@ miss s r g h = by (int_eq (items_value s r g) (pos 0)) refl
     by true e = absurd (h (int_eq-zero (items_value s r g) e))
     by false e = refl
 
-module _ (f : Focus) (n : Items) (c : Cond) (b : Term) (g x : Items) (equal : c.all ≡ Eq g ∷ []) (ordered : AllOrdered b) where
+module _ (f : Focus) (n : Items) (c : Cond) (b : Term) (g x : Items) (equal : c.all ≡ Eq g ∷ []) (ordered : AllOrdered b)
+    (literals : LiteralsFit b) where
   abbrev sizes : ℕ
   sizes = length f.facts.sizes
 
@@ -210,18 +211,19 @@ module _ (f : Focus) (n : Items) (c : Cond) (b : Term) (g x : Items) (equal : c.
     elsewhere : (s r : List ℕ) (v i : ℕ) → items_value s r x ≡ pos v → (i ≡ v → ⊥) → all_hold s (i ∷ r) c.all ≡ false
     elsewhere s r v i h k = ap (all_hold s (i ∷ r)) equal ∙ miss s (i ∷ r) g (λ e. k ((w.names s r v i h).0 e))
 
-    picked : (s r : List ℕ) (t : List Bound) → IsRow f n b x s r → AllShaped t → AllWords t → Stands f before s (extents_of t)
+    picked : (s r : List ℕ) (t : List Bound) → IsRow f n b x s r → Reached f s r t → Stands f before s (extents_of t)
         → den (with_index x b) s r t ≡ den before s r t
-    picked s r t k h u st =
+    picked s r t k h st =
         let d = dims b s (extents_of t) in
         let turn : ℕ → Tensor = λ i. if all_hold s (i ∷ r) c.all then den b s (i ∷ r) t else zeros d in
         with_index-means b ordered s x w.ordered k.0 r t k.1
         ∙ sym (total-one_place (zeros d) (zeros_idempotent d) (extent n s) k.0 turn k.2
         (λ i ne. passed (all_hold s (i ∷ r) c.all) (den b s (i ∷ r) t) (zeros d) (elsewhere s r k.0 i k.1 ne))
         ∙ ap (λ y. plus_places y (zeros d)) (chosen (all_hold s (k.0 ∷ r) c.all) (den b s (k.0 ∷ r) t) (zeros d) (at_turn s r k.0 k.1))
-        ∙ plus_zeros d (den b s (k.0 ∷ r) t) (den_shape b s (k.0 ∷ r) t st.fits h) (den_words b s (k.0 ∷ r) t st.literals u))
+        ∙ plus_zeros d (den b s (k.0 ∷ r) t) (den_shape b s (k.0 ∷ r) t st.fits h.shaped)
+        (den_words b s (k.0 ∷ r) t literals h.words))
 
-    turn_replaced : ReplacesWords f (IsRow f n b x) before (with_index x b)
+    turn_replaced : Replaces f (IsRow f n b x) before (with_index x b)
     turn_replaced = record {
       scoped = λ k.
           let p = and_parts (items_scoped sizes 0 n) (term_scoped sizes (guard c b) (vars + 1) tensors) k in
@@ -229,7 +231,7 @@ module _ (f : Focus) (n : Items) (c : Cond) (b : Term) (g x : Items) (equal : c.
           with_index-scoped sizes vars tensors x b w.scoped q.1;
       extents = λ s ds st. with_index-extents x b s ds;
       goals = λ s ds st. with_index-goals x b s ds st.goals.1;
-      meaning = λ s r t k h u st. picked s r t k h u st;
+      meaning = λ s r t k h st. picked s r t k h st;
       shape = λ h.
           let z = shape_of b (given f.shapes) in
           let y = first_ok (summed z) (λ ns. Ok ns) h in
@@ -267,21 +269,21 @@ module _ (f : Focus) (p : IsProper f) (n : Items) (c : Cond) (b : Term) (q : f.t
       (and_parts (items_scoped sizes vars g) true (subst (λ (cs : List Cmp). all_scoped sizes vars cs ≡ true) e k)).0
 
   pick_solved : AllOrdered f.term → (g : Items) → c.all ≡ Eq g ∷ [] → (y : Option Items) → solved g ≡ y → (as' : List Arg)
-      → MeantKeeps f (on_some y (λ x. without_arguments as' (Makes (with_index x b) (one_of_rows f.facts n x))))
+      → MeantKeeps f (on_form y (λ x. without_arguments as' (Makes (with_index x b) (one_of_rows f.facts n x))))
   pick_solved o g e None h as' = tt
   pick_solved o g e (Some x) h (a ∷ as') = tt
   pick_solved o g e (Some x) h [] =
       let w = solves (length f.facts.sizes) (binders f.facts.path) g x (equation_scoped g e) h in
-      replaced_words f p (sum n (guard c b)) (with_index x b) q (IsRow f n b x) (one_of_rows f.facts n x)
-      (λ t. is_row f n b x (length f.facts.sizes) scopes.0 t) (turn_replaced f n c b g x e (body_ordered o) w)
+      replaced f p (sum n (guard c b)) (with_index x b) q (IsRow f n b x) (one_of_rows f.facts n x)
+      (λ t. is_row f n b x (length f.facts.sizes) scopes.0 t) (turn_replaced f n c b g x e (body_ordered o) (subst LiteralsFit q p.literals) w)
 
   pick_equation : AllOrdered f.term → (y : Option Items) → equation c.all ≡ y → (as' : List Arg)
-      → MeantKeeps f (on_some y (λ g. on_some (solved g) (λ x. without_arguments as' (Makes (with_index x b) (one_of_rows f.facts n x)))))
+      → MeantKeeps f (on_form y (λ g. on_form (solved g) (λ x. without_arguments as' (Makes (with_index x b) (one_of_rows f.facts n x)))))
   pick_equation o None h as' = tt
   pick_equation o (Some g) h as' = pick_solved o g (equation_is c.all g h) (solved g) refl as'
 
 sum_pick_inside : (f : Focus) → IsProper f → AllOrdered f.term → (n : Items) (e : Term) → f.term ≡ sum n e → (as' : List Arg)
-    → MeantKeeps f (on_guard e (λ c b. on_some (equation c.all) (λ g. on_some (solved g)
+    → MeantKeeps f (on_guard e (λ c b. on_form (equation c.all) (λ g. on_form (solved g)
     (λ x. without_arguments as' (Makes (with_index x b) (one_of_rows f.facts n x))))))
 sum_pick_inside f p o n (guard c b) q as' = pick_equation f p n c b q o (equation c.all) refl as'
 sum_pick_inside f p o n _ q as' = tt

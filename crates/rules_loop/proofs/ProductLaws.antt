@@ -1,9 +1,7 @@
 -- A factor outside a sum.
-use Rattle.std.proofs.Common.{◌≡◌, ℕ, zero, suc, ◌+◌, ◌*◌, ◌%◌, ◌^◌, List, [], ◌∷◌, length, refl, ap, sym, ◌∙◌, subst, arith}
-use Rattle.std.proofs.Common.{Bool, true, false, ◌&&◌, not, IsOk, Ok, Err}
+use Rattle.std.proofs.Common.{◌≡◌, ℕ, ◌+◌, List, [], ◌∷◌, length, refl, sym, ◌∙◌, subst, Bool, true, false, ◌&&◌, not, Ok}
 use Rattle.std.specs.Prelude.{pos}
 use Rattle.std.proofs.lemmas.Bool.{and_from, and_parts, not-true}
-use Rattle.std.proofs.lemmas.Nat.{mul-mod_second}
 use Rattle.affine_index.specs.Form.{literal_form}
 use Rattle.affine_index.specs.Limited.{items_scoped}
 use Rattle.affine_index.specs.Normal.{is_ordered}
@@ -20,10 +18,10 @@ use Rattle.shape_rules.proofs.DenShape.{den_shape}
 use Rattle.term_tree.specs.Limits.{every_form, form_step}
 use Rattle.term_tree.specs.Meaning.{Bound, den, dims, extent, extents_of}
 use Rattle.term_tree.specs.Scope.{term_scoped}
-use Rattle.term_tree.specs.Shape.{Shaped, of_words, shape_of, with_child}
+use Rattle.term_tree.specs.Shape.{of_words, shape_of, with_child}
 use Rattle.term_tree.specs.Shaped.{HasShape, IsWord}
 use Rattle.term_tree.specs.Syntax.{mul, sum}
-use Rattle.term_tree.specs.Tensors.{Tensor, Word, End, Row, by_places, plus_places, tabulate, total, zeros}
+use Rattle.term_tree.specs.Tensors.{Tensor, Word, tabulate, total, zeros}
 use Rattle.term_tree.specs.declared.term.Term.{Term}
 use Rattle.term_tree.proofs.Folds.{fold-mul, fold-sum}
 use Rattle.path_focus.specs.Focus.{IsProper}
@@ -33,70 +31,11 @@ use Rattle.path_focus.specs.declared.place.Focus.{Focus}
 use Rattle.path_focus.specs.declared.rule.Arg.{Arg}
 use Rattle.path_focus.proofs.MakingLaws.{with_index-goals, with_index-means, with_index-scoped, with_index-shape}
 use Rattle.path_focus.proofs.ShapeSteps.{same_shape_there}
-use Rattle.rules_loop.specs.Patterns.{on_mul, provided}
+use Rattle.rule_parts.specs.Patterns.{on_mul, provided}
 use Rattle.rules_loop.specs.Table.{mul_out_of_sum}
 use Rattle.rules_loop.proofs.EtaLaws.{literal-scoped}
-use Rattle.rules_loop.proofs.Replacing.{Replaces, Stands, anywhere, replaced_anywhere}
-use Rattle.rules_loop.proofs.ShapeLaws.{never}
-
--- the product of places
-abbrev times_places : Tensor → Tensor → Tensor
-times_places = by_places (λ v w. (v * w) % 2 ^ 64)
-
-distributes : (a b c : ℕ) → (a * ((b + c) % 2 ^ 64)) % 2 ^ 64 ≡ ((a * b) % 2 ^ 64 + (a * c) % 2 ^ 64) % 2 ^ 64
-distributes a b c = mul-mod_second a (b + c) (2 ^ 64) ∙ ap (λ n. n % 2 ^ 64) (times_sum a b c) ∙ added (a * b) (a * c)
-  where
-    times_sum : (a b c : ℕ) → a * (b + c) ≡ a * b + a * c
-    times_sum a b c = grind arith
-
-    added : (m n : ℕ) → (m + n) % 2 ^ 64 ≡ (m % 2 ^ 64 + n % 2 ^ 64) % 2 ^ 64
-    added m n = omega arith
-
-sum_of_words : (n : ℕ) (g : ℕ → Tensor) → ((i : ℕ) → IsWord (g i)) → IsWord (total (Word 0) (tabulate n g))
-sum_of_words zero g h = tt
-sum_of_words (suc n) g h = plus (g 0) (total (Word 0) (tabulate n (λ i. g (suc i)))) (h 0) (sum_of_words n (λ i. g (suc i)) (λ i. h (suc i)))
-  where
-    plus : (x y : Tensor) → IsWord x → IsWord y → IsWord (plus_places x y)
-    plus (Word a) (Word b) h k = tt
-    plus (Word a) End h k = absurd k
-    plus (Word a) (Row b c) h k = absurd k
-    plus End y h k = absurd h
-    plus (Row a b) y h k = absurd h
-
-times_plus : (x y z : Tensor) → IsWord x → IsWord y → IsWord z → times_places x (plus_places y z) ≡ plus_places (times_places x y) (times_places x z)
-times_plus (Word a) (Word b) (Word c) h k l = ap Word (distributes a b c)
-times_plus (Word a) (Word b) End h k l = absurd l
-times_plus (Word a) (Word b) (Row c d) h k l = absurd l
-times_plus (Word a) End z h k l = absurd k
-times_plus (Word a) (Row b c) z h k l = absurd k
-times_plus End y z h k l = absurd h
-times_plus (Row a b) y z h k l = absurd h
-
-times_none : (x : Tensor) → IsWord x → times_places x (Word 0) ≡ Word 0
-times_none (Word a) h = ap Word (none a)
-  where
-    none : (a : ℕ) → (a * 0) % 2 ^ 64 ≡ 0
-    none a = omega arith
-times_none End h = absurd h
-times_none (Row a b) h = absurd h
-
--- a word times a sum of words
-times_total : (n : ℕ) (x : Tensor) (g : ℕ → Tensor) → IsWord x → ((i : ℕ) → IsWord (g i))
-    → times_places x (total (Word 0) (tabulate n g)) ≡ total (Word 0) (tabulate n (λ i. times_places x (g i)))
-times_total zero x g h k = times_none x h
-times_total (suc n) x g h k =
-    times_plus x (g 0) (total (Word 0) (tabulate n (λ i. g (suc i)))) h (k 0) (sum_of_words n (λ i. g (suc i)) (λ i. k (suc i)))
-    ∙ (λ j. plus_places (times_places x (g 0)) (times_total n x (λ i. g (suc i)) h (λ i. k (suc i)) j))
-
--- the shapes
-factor_outside : (x y : Shaped) → IsOk (with_child 0 (with_child 0 x (λ ns. with_child 1 y (λ ms. of_words ns ms))) (λ ns. Ok ns))
-    → with_child 0 x (λ ns. with_child 1 (with_child 0 y (λ ms. Ok ms)) (λ ms. of_words ns ms))
-    ≡ with_child 0 (with_child 0 x (λ ns. with_child 1 y (λ ms. of_words ns ms))) (λ ns. Ok ns)
-factor_outside (Err m) y h = absurd (never h)
-factor_outside (Ok ns) (Err m) h = absurd (never h)
-factor_outside (Ok []) (Ok []) h = refl
-factor_outside (Ok []) (Ok (m ∷ ms)) h = absurd (never h)
-factor_outside (Ok (n ∷ ns)) (Ok ms) h = absurd (never h)
+use Rattle.rule_parts.proofs.Replacing.{Replaces, Stands, anywhere, replaced_anywhere}
+use Rattle.rules_loop.proofs.WordProducts.{factor_outside, times_places, times_total}
 
 -- scopes
 regroup : (n a b : Bool) → (n && (a && b)) ≡ true → (a ≡ true) × ((n && b) ≡ true)
@@ -138,7 +77,7 @@ module _ (f : Focus) (n : Items) (a b : Term) (free : uses_index a 0 ≡ false) 
       let x = den (lowered a) s r t in
       let is_word : IsWord x = subst IsWord (sym (at_turn s r t 0)) (word (den a s (0 ∷ r) t) da w.fits.0.0 (den_shape a s (0 ∷ r) t w.fits.1 h)) in
       (λ j. times_places x (total (zeros (w.fits.0.1 j)) (tabulate (extent n s) (λ i. den b s (i ∷ r) t))))
-      ∙ times_total (extent n s) x (λ i. den b s (i ∷ r) t) is_word (λ i. word (den b s (i ∷ r) t) db w.fits.0.1 (den_shape b s (i ∷ r) t w.fits.2 h))
+      ∙ times_total x (extent n s) (λ i. den b s (i ∷ r) t) is_word (λ i. word (den b s (i ∷ r) t) db w.fits.0.1 (den_shape b s (i ∷ r) t w.fits.2 h))
       ∙ (λ j. total (Word 0) (tabulate (extent n s) (λ i. times_places (at_turn s r t i j) (den b s (i ∷ r) t))))
 
   factor_out : Replaces f anywhere (sum n (mul a b)) (mul (lowered a) (sum n b))
@@ -146,7 +85,7 @@ module _ (f : Focus) (n : Items) (a b : Term) (free : uses_index a 0 ≡ false) 
     scoped = outside_scope;
     extents = λ s ds w. refl;
     goals = λ s ds w. (with_index-goals (literal_form (pos 0)) a s ds w.goals.1.0, (w.goals.0, w.goals.1.1));
-    meaning = λ s r t k h w. outside_means s r t h w;
+    meaning = λ s r t k h w. outside_means s r t h.shaped w;
     shape = λ h.
         same_shape_there (shape_of (sum n (mul a b)) (given f.shapes)) (shape_of (mul (lowered a) (sum n b)) (given f.shapes)) h
         ((λ i. with_child 0 (with_index-shape (literal_form (pos 0)) a (given f.shapes) i)

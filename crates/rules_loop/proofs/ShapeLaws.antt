@@ -1,19 +1,12 @@
 -- Shapes of nodes within nodes, where each is there or breaks a limit.
-use Rattle.std.proofs.Common.{◌≡◌, [], ◌∷◌, refl, ap, sym, ◌∙◌, subst, false, true, Ok, Err, IsOk}
+use Rattle.std.proofs.Common.{◌≡◌, [], ◌∷◌, refl, ap, sym, ◌∙◌, subst, Ok, Err, IsOk}
 use Rattle.affine_index.specs.declared.form.Items.{Items}
 use Rattle.shape_rules.proofs.RuleValues.{limited_same}
 use Rattle.term_tree.specs.Shape.{Extents, Shaped, limited, of_equal, of_first, of_two, with_child}
 use Rattle.path_focus.specs.Focus.{SameOrLimit}
+use Rattle.rule_parts.proofs.Replacing.{never}
+use Rattle.rule_parts.proofs.ShapeLaws.{both_on, first_ok, handed_on, on_rows, row, row_on, rows_on}
 use Rattle.path_focus.proofs.ShapeSteps.{equal_extents, equal_or, limited_or, next, old_is, same_shape_there}
-
--- what is an error is not there
-pub never : false ≡ true → ⊥
-never h = absurd (cc)
-
--- a shape that is handed on
-pub handed_on : (z : Shaped) → IsOk z → z ≡ with_child 0 z (λ ns. Ok ns)
-handed_on (Ok ns) h = refl
-handed_on (Err m) h = absurd (never h)
 
 -- a shape within the limits, as it stands
 pub within : (ns : Extents) → IsOk (limited ns) → limited ns ≡ Ok ns
@@ -22,11 +15,6 @@ within ns h = by (limited ns) refl h
     by : (z : Shaped) → limited ns ≡ z → IsOk z → limited ns ≡ Ok ns
     by (Ok ms) e h = e ∙ (λ i. Ok (sym (limited_same ns ms e) i))
     by (Err m) e h = absurd (never h)
-
--- the first of two steps is there where both are
-pub first_ok : (z : Shaped) (g : Extents → Shaped) → IsOk (with_child 0 z g) → IsOk z
-first_ok (Ok ns) g h = refl
-first_ok (Err m) g h = absurd (never h)
 
 -- equal extents that are there
 pub equal_is : (ns ms : Extents) → IsOk (of_equal ns ms) → of_equal ns ms ≡ Ok ns
@@ -67,13 +55,10 @@ abbrev pub rows : Items → Shaped → Shaped
 rows m x = with_child 0 x (λ ns. limited (m ∷ ns))
 
 pub summed_rows : (m : Items) (x : Shaped) → IsOk (summed (rows m x)) → SameOrLimit (summed (rows m x)) (rows m (summed x))
-summed_rows m (Ok ns) h =
-    same_shape_there (summed (rows m (Ok ns))) (rows m (summed (Ok ns))) h (handed_on (limited (m ∷ ns)) (first_ok (limited (m ∷ ns)) (λ ns. Ok ns) h))
-summed_rows m (Err e) h = absurd (never h)
+summed_rows m x h = same_shape_there (summed (rows m x)) (rows m (summed x)) h (rows_on m x h)
 
 pub rows_summed : (m : Items) (x : Shaped) → IsOk (rows m (summed x)) → SameOrLimit (rows m (summed x)) (summed (rows m x))
-rows_summed m (Ok ns) h = same_shape_there (rows m (summed (Ok ns))) (summed (rows m (Ok ns))) h (sym (handed_on (limited (m ∷ ns)) h))
-rows_summed m (Err e) h = absurd (never h)
+rows_summed m x h = same_shape_there (rows m (summed x)) (summed (rows m x)) h (on_rows m x h)
 
 -- of two of equal shape
 abbrev pub equals : Shaped → Shaped → Shaped
@@ -81,19 +66,12 @@ equals x y = with_child 0 x (λ ns. with_child 1 y (λ ms. of_equal ns ms))
 
 -- the shapes of the sum of sums, and of the sum of a sum
 pub both_sums : (x y : Shaped) → IsOk (summed (equals x y)) → SameOrLimit (summed (equals x y)) (equals (summed x) (summed y))
-both_sums (Ok ns) (Ok ms) h =
-    same_shape_there (summed (of_equal ns ms)) (of_equal ns ms) h (handed_on (of_equal ns ms) (first_ok (of_equal ns ms) (λ ns. Ok ns) h))
-both_sums (Ok ns) (Err m) h = absurd (never h)
-both_sums (Err m) y h = absurd (never h)
+both_sums x y h = same_shape_there (summed (equals x y)) (equals (summed x) (summed y)) h (both_on of_equal x y h)
 
 pub one_sum : (x y : Shaped) → IsOk (equals (summed x) (summed y)) → SameOrLimit (equals (summed x) (summed y)) (summed (equals x y))
 one_sum (Ok ns) (Ok ms) h = same_shape_there (of_equal ns ms) (summed (of_equal ns ms)) h (sym (handed_on (of_equal ns ms) h))
 one_sum (Ok ns) (Err m) h = absurd (never h)
 one_sum (Err m) y h = absurd (never h)
-
--- a row of a shape
-abbrev pub row : Shaped → Shaped
-row x = with_child 0 x (λ ns. of_first ns (λ n rest. Ok rest))
 
 -- rows of two of equal shape
 equal_rows : (ns ms : Extents) → ms ≡ ns → of_equal ns ms ≡ Ok ns → IsOk (row (Ok ns))
@@ -114,6 +92,4 @@ rows_of_equal (Ok ns) (Ok ms) h =
 
 -- a row of a sum, and the sum of a row
 pub summed_row : (x : Shaped) → IsOk (row (summed x)) → SameOrLimit (row (summed x)) (summed (row x))
-summed_row (Err m) h = absurd (never h)
-summed_row (Ok []) h = absurd (never h)
-summed_row (Ok (n ∷ ns)) h = refl
+summed_row x h = same_shape_there (row (summed x)) (summed (row x)) h (row_on x h)

@@ -16,9 +16,10 @@ use Rattle.path_focus.specs.Focus.{IsProper}
 use Rattle.path_focus.specs.Outcome.{MeantKeeps, RuleKeeps, without_arguments, Makes}
 use Rattle.path_focus.specs.declared.place.Focus.{Focus}
 use Rattle.path_focus.specs.declared.rule.Arg.{Arg}
-use Rattle.rules_loop.proofs.Replacing.{Replaces, anywhere, replaced_anywhere}
+use Rattle.rule_parts.proofs.Replacing.{Replaces, anywhere, replaced_anywhere}
 use Rattle.rules_loop.proofs.ShapeLaws.{both_sums, one_sum}
-use Rattle.rules_loop.specs.Patterns.{on_add, on_sum, provided}
+use Rattle.rule_parts.specs.Patterns.{on_sum, provided}
+use Rattle.rules_loop.specs.Patterns.{on_add}
 use Rattle.rules_loop.specs.Table.{add_sum, sum_add}
 
 apart : (n a b : Bool) → (n && (a && b)) ≡ true → ((n && a) && (n && b)) ≡ true

@@ -33,10 +33,10 @@ use Rattle.path_focus.specs.declared.place.Focus.{Focus}
 use Rattle.path_focus.specs.declared.rule.Arg.{Arg}
 use Rattle.path_focus.proofs.PutLaws.{put_extents, put_goals, put_shape}
 use Rattle.path_focus.proofs.ShapeSteps.{new_is, same_shape_there}
-use Rattle.rules_loop.proofs.Replacing.{Replaces, anywhere, replaced_anywhere}
+use Rattle.rule_parts.proofs.Replacing.{Replaces, anywhere, replaced_anywhere}
 use Rattle.rules_loop.proofs.RowLaws.{total_of_rows}
 use Rattle.rules_loop.proofs.ShapeLaws.{rows, rows_of_rows, rows_summed, summed, summed_rows, turned, turned_rows}
-use Rattle.rules_loop.specs.Patterns.{on_gen, on_sum}
+use Rattle.rule_parts.specs.Patterns.{on_gen, on_sum}
 use Rattle.rules_loop.specs.Table.{gen_sum, sum_gen, swap_gen, swap_sum, swapped}
 
 abbrev both_vars : List Items

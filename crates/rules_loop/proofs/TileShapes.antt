@@ -13,7 +13,8 @@ use Rattle.path_focus.specs.Making.{tile_rest}
 use Rattle.term_tree.specs.Shape.{Extents, Shaped, each_fits, each_short, here, largest_rank, limited, of_first, of_two, tiles, with_child}
 use Rattle.term_tree.specs.declared.cause.Cause.TheVariants.{RankTooLarge, CoefficientTooLarge, IndexTooLong}
 use Rattle.rules_loop.proofs.Coefficients.{product-literal, taken-twice, whole-again}
-use Rattle.rules_loop.proofs.ShapeLaws.{never, within}
+use Rattle.rule_parts.proofs.Replacing.{never}
+use Rattle.rules_loop.proofs.ShapeLaws.{within}
 use Rattle.rules_loop.proofs.TileForms.{tiles-ordered}
 use Rattle.rules_loop.specs.Tilings.{divides}
 

@@ -43,14 +43,14 @@ use Rattle.path_focus.specs.declared.rule.Arg.TheVariants.{Ix}
 use Rattle.path_focus.proofs.PutLaws.{put_extents, put_goals, put_shape}
 use Rattle.path_focus.proofs.SteadyLaws.{steady_of}
 use Rattle.rules_loop.proofs.Coefficients.{whole-again}
-use Rattle.rules_loop.proofs.Replacing.{Replaces, anywhere, replaced_anywhere}
+use Rattle.rule_parts.proofs.Replacing.{Replaces, anywhere, replaced_anywhere}
 use Rattle.rules_loop.proofs.TileForms.{below-scoped, covers, literal-scoped, more, place-ordered, place-scoped, quotient-scoped, remainder-ordered}
 use Rattle.rules_loop.proofs.TileForms.{remainder-scoped, rest-scoped, scaled-scoped, tile_count, tiles-scoped, value-below, value-left, value-part}
 use Rattle.rules_loop.proofs.TileForms.{value-place, value-rest, value-tiles, var-ordered}
 use Rattle.rules_loop.proofs.SwapLaws.{var-scoped}
 use Rattle.rules_loop.proofs.TileRows.{row_below, rows_joined, tiles_cut, tiles_joined, tiles_summed}
 use Rattle.rules_loop.proofs.TileShapes.{exact_shape, fuse_shape, remains_or, split_gen_shape, split_sum_shape}
-use Rattle.rules_loop.specs.Patterns.{on_gen}
+use Rattle.rule_parts.specs.Patterns.{on_gen}
 use Rattle.rules_loop.specs.Tilings.{IsTile, below, divides, fuse_gen, fused, guarded, in_tiles, split_gen, split_gen_exact, split_sum}
 use Rattle.rules_loop.specs.Tilings.{tile_constant, tile_number, tile_of, tile_place, with_number, with_tile}
 

@@ -1,11 +1,10 @@
 -- The numbers of a proper focus leave room for what rules of one turn, and of one more gen or sum, put into its terms.
-use Rattle.std.proofs.Common.{◌≡◌, ℕ, ◌+◌, ◌≤◌, List, [], ◌∷◌, length, subst, arith, true, ◌&&◌, Some}
+use Rattle.std.proofs.Common.{◌≡◌, ℕ, ◌+◌, ◌≤◌, [], ◌∷◌, length, subst, arith, true, Some}
 use Rattle.std.specs.Prelude.{pos}
 use Rattle.std.proofs.lemmas.Bool.{and_parts}
 use Rattle.affine_index.specs.Form.{literal_form}
 use Rattle.affine_index.specs.Limited.{items_scoped}
 use Rattle.affine_index.specs.Put.{numbers_fit}
-use Rattle.affine_index.specs.declared.cond.Cmp.TheVariants.{Eq}
 use Rattle.affine_index.specs.declared.cond.Cond.{Cond}
 use Rattle.affine_index.specs.declared.form.Items.{Items}
 use Rattle.affine_index.proofs.ScopedMoves.{form-fits}
@@ -19,7 +18,7 @@ use Rattle.term_tree.specs.Syntax.{guard, mul, sum}
 use Rattle.term_tree.specs.declared.term.Term.{Term}
 use Rattle.path_focus.specs.Focus.{IsProper}
 use Rattle.path_focus.specs.declared.place.Focus.{Focus}
-use Rattle.path_focus.proofs.CountLaws.{depth_nodes, given_few, moved_reach, one_put, vars_few}
+use Rattle.path_focus.proofs.CountLaws.{given_few, moved_reach, one_put, vars_few}
 use Rattle.rules_loop.proofs.OneLaws.{literal-scoped}
 use Rattle.rules_loop.proofs.PickLaws.{equation_is, equation_scoped, left_scoped, solves}
 use Rattle.rules_loop.specs.OneTurn.{at_zero, equation, solved}

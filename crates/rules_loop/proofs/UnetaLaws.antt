@@ -1,6 +1,5 @@
 -- A term of rank 1 or more is the gen of its rows.
-use Rattle.std.proofs.Common.{◌≡◌, ℕ, zero, suc, ◌+◌, List, [], ◌∷◌, length, get_or, refl, ap, sym, ◌∙◌, subst, arith, true, ◌&&◌, Ok, Err, IsOk}
-use Rattle.std.specs.Prelude.{pos}
+use Rattle.std.proofs.Common.{◌≡◌, ℕ, zero, suc, ◌+◌, List, [], ◌∷◌, length, get_or, refl, ap, sym, ◌∙◌, subst, arith, true, Ok, Err}
 use Rattle.std.proofs.lemmas.Bool.{and_from, and_parts}
 use Rattle.affine_index.specs.Condition.{at_least_zero}
 use Rattle.affine_index.specs.Form.{var_form}
@@ -34,10 +33,11 @@ use Rattle.path_focus.specs.declared.rule.Arg.{Arg}
 use Rattle.path_focus.proofs.MovedLaws.{moved_extents, moved_numbers, moved_scoped, moved_shape}
 use Rattle.path_focus.proofs.ShapeScopes.{ScopedShape, shape_scope}
 use Rattle.path_focus.proofs.ShapeSteps.{limited_or, new_is, old_is}
-use Rattle.rules_loop.proofs.Replacing.{Replaces, Stands, anywhere, replaced_anywhere}
+use Rattle.rule_parts.proofs.Replacing.{Replaces, Stands, anywhere, replaced_anywhere}
 use Rattle.rules_loop.proofs.SwapLaws.{var-scoped}
-use Rattle.rules_loop.specs.Patterns.{on_some}
-use Rattle.rules_loop.specs.Raising.{first_extent, uneta}
+use Rattle.rule_parts.specs.Patterns.{on_form}
+use Rattle.rule_parts.specs.Patterns.{first_extent}
+use Rattle.rules_loop.specs.Raising.{uneta}
 
 -- the rows of a tensor, one by one
 rows_again : (P : Tensor → Type 0) (n : ℕ) (x : Tensor) (z : Tensor) → HasRows P n x → from_rows (tabulate n (λ i. get_or (rows_of x) i z)) ≡ x
@@ -108,7 +108,7 @@ module _ (f : Focus) (p : IsProper f) (n : Items) (ms : Extents) (shaped : shape
     extents = λ s ds w.
         (λ j. extent n s ∷ tail_of (moved_extents 1 s [] ds 0 [] f.term j)) ∙ sym (has_first s n ms (dims f.term s ds) (term_values s ds w));
     goals = λ s ds w. (not_negative s n ms (dims f.term s ds) (term_values s ds w), moved_numbers 1 s [] ds 0 [] f.term w.goals);
-    meaning = λ s r t k h w. rows_mean s r t h w;
+    meaning = λ s r t k h w. rows_mean s r t h.shaped w;
     shape = λ h.
         let e : shape_of rows (given f.shapes) ≡ limited (n ∷ ms) =
         (λ i. with_child 0 (with_child 0 ((moved_shape 1 [] (given f.shapes) 0 [] f.term ∙ shaped) i) row_shape) (rows_shape n)) in
@@ -117,7 +117,7 @@ module _ (f : Focus) (p : IsProper f) (n : Items) (ms : Extents) (shaped : shape
   }
 
 uneta_shape : (f : Focus) → IsProper f → AllOrdered f.term → (z : Shaped) → shape_of f.term (given f.shapes) ≡ z → (as' : List Arg)
-    → MeantKeeps f (on_some (first_extent z) (λ n. without_arguments as' (Makes (gen n (index (raised f.term) (var_form 0))) [])))
+    → MeantKeeps f (on_form (first_extent z) (λ n. without_arguments as' (Makes (gen n (index (raised f.term) (var_form 0))) [])))
 uneta_shape f p o (Err m) h as' = tt
 uneta_shape f p o (Ok []) h as' = tt
 uneta_shape f p o (Ok (n ∷ ms)) h (y ∷ ys) = tt

@@ -12,7 +12,7 @@ use Rattle.path_focus.specs.Making.{lowered, one_of_rows, with_index}
 use Rattle.path_focus.specs.Outcome.{Makes, Meant, without_arguments}
 use Rattle.path_focus.specs.declared.place.Focus.{Focus}
 use Rattle.path_focus.specs.declared.rule.Arg.{Arg}
-use Rattle.rules_loop.specs.Patterns.{on_guard, on_some, on_sum, provided}
+use Rattle.rule_parts.specs.Patterns.{on_form, on_guard, on_sum, provided}
 use Rattle.term_tree.specs.Shape.{same_form}
 
 -- sum i < 1. b becomes b with 0 for i
@@ -44,5 +44,5 @@ solved g = option_and_then (solved_from g) (where_normal (at_zero g))
 
 -- sum i < n. guard c. b becomes b with x for i, where c is one equation, which is solved for i by x, and 0 <= x < n
 abbrev pub sum_pick : Focus → List Arg → Meant
-sum_pick f as' = on_sum f.term (λ n e. on_guard e (λ c b. on_some (equation c.all) (λ g. on_some (solved g) (λ x.
+sum_pick f as' = on_sum f.term (λ n e. on_guard e (λ c b. on_form (equation c.all) (λ g. on_form (solved g) (λ x.
     without_arguments as' (Makes (with_index x b) (one_of_rows f.facts n x))))))

@@ -1,23 +1,10 @@
--- Patterns of rules: what is made of the parts of a term of this form, or that it has another one.
-use Rattle.std.specs.Prelude.{Bool, false, if◌then◌else◌, ◌∷◌, Ok, Option, Some, None}
-use Rattle.affine_index.specs.declared.cond.Cond.{Cond}
+-- Patterns of rules of gens and sums, beside those that all rules share.
+use Rattle.std.specs.Prelude.{Bool, false, ◌∷◌, Ok}
 use Rattle.affine_index.specs.declared.form.Items.{Items}
 use Rattle.path_focus.specs.Outcome.{Meant, Unlike}
 use Rattle.term_tree.specs.Shape.{Shaped, same_form}
-use Rattle.term_tree.specs.Syntax.{index, flatten, gen, sum, add, sub, mul, guard}
+use Rattle.term_tree.specs.Syntax.{add, flatten}
 use Rattle.term_tree.specs.declared.term.Term.{Term}
-
-abbrev pub on_index : Term → (Term → Items → Meant) → Meant
-on_index (index e x) f = f e x
-on_index _ f = Unlike
-
-abbrev pub on_gen : Term → (Items → Term → Meant) → Meant
-on_gen (gen n e) f = f n e
-on_gen _ f = Unlike
-
-abbrev pub on_sum : Term → (Items → Term → Meant) → Meant
-on_sum (sum n e) f = f n e
-on_sum _ f = Unlike
 
 abbrev pub on_flatten : Term → (Term → Meant) → Meant
 on_flatten (flatten e) f = f e
@@ -27,30 +14,7 @@ abbrev pub on_add : Term → (Term → Term → Meant) → Meant
 on_add (add a b) f = f a b
 on_add _ f = Unlike
 
-abbrev pub on_mul : Term → (Term → Term → Meant) → Meant
-on_mul (mul a b) f = f a b
-on_mul _ f = Unlike
-
-abbrev pub on_guard : Term → (Cond → Term → Meant) → Meant
-on_guard (guard c e) f = f c e
-on_guard _ f = Unlike
-
--- a sum of two terms, or their difference
-abbrev pub on_either : Term → (Term → Term → Meant) → (Term → Term → Meant) → Meant
-on_either (add a b) f g = f a b
-on_either (sub a b) f g = g a b
-on_either _ f g = Unlike
-
--- where something holds
-abbrev pub provided : Bool → Meant → Meant
-provided b m = if b then m else Unlike
-
 -- a form is the first extent of a shape
 abbrev pub is_first : Items → Shaped → Bool
 is_first n (Ok (m ∷ ms)) = same_form m n
 is_first n _ = false
-
--- what is made of a form, where there is one
-abbrev pub on_some : Option Items → (Items → Meant) → Meant
-on_some (Some n) f = f n
-on_some None f = Unlike

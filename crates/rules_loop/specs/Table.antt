@@ -1,8 +1,9 @@
 -- The rules of gens and sums.
-use Rattle.std.specs.Prelude.{List, [], ◌∷◌, not, ◌&&◌}
+use Rattle.std.specs.Prelude.{Bool, List, [], ◌∷◌, not, ◌&&◌}
 use Rattle.affine_index.specs.Form.{var_form}
 use Rattle.affine_index.specs.Put.{shifted}
 use Rattle.affine_index.specs.Sum.{difference_of}
+use Rattle.affine_index.specs.declared.form.Items.{Items}
 use Rattle.binders.specs.Maps.{mapped}
 use Rattle.binders.specs.PlainMaps.{put_index_map}
 use Rattle.binders.specs.Uses.{uses_index}
@@ -11,9 +12,10 @@ use Rattle.path_focus.specs.Outcome.{Makes, Meant, without_arguments}
 use Rattle.path_focus.specs.declared.place.Focus.{Focus}
 use Rattle.path_focus.specs.declared.rule.Arg.{Arg}
 use Rattle.rules_loop.specs.Cuts.{moved_by, with_cut, within_extent}
-use Rattle.rules_loop.specs.Patterns.{is_first, on_add, on_either, on_gen, on_index, on_mul, on_sum, provided}
+use Rattle.rule_parts.specs.Patterns.{on_either, on_gen, on_index, on_mul, on_sum, provided}
+use Rattle.rules_loop.specs.Patterns.{is_first, on_add}
 use Rattle.shape_rules.specs.Scopes.{given}
-use Rattle.term_tree.specs.Shape.{same_form, shape_of}
+use Rattle.term_tree.specs.Shape.{Extents, same_form, shape_of}
 use Rattle.term_tree.specs.Syntax.{add, concat, gen, index, mul, sub, sum, transpose}
 use Rattle.term_tree.specs.declared.term.Term.{Term}
 
@@ -25,10 +27,14 @@ swapped b = mapped (put_index_map (var_form 1 ∷ var_form 0 ∷ []) 2) 0 0 b
 abbrev pub beta : Focus → List Arg → Meant
 beta f as' = on_index f.term (λ e x. on_gen e (λ n b. without_arguments as' (Makes (with_index x b) (one_of_rows f.facts n x))))
 
+-- an index is the variable of a gen of so many rows of a term that is free of it
+abbrev pub is_each_row : List Extents → Items → Term → Items → Bool
+is_each_row ts n a x = same_form x (var_form 0) && (not (uses_index a 0) && is_first n (shape_of a ts))
+
 -- gen i < n. a[i] becomes a, where a is free of i and n its first extent
 abbrev pub eta : Focus → List Arg → Meant
 eta f as' = on_gen f.term (λ n e. on_index e (λ a x.
-    provided (same_form x (var_form 0) && (not (uses_index a 0) && is_first n (shape_of a (given f.shapes)))) (without_arguments as' (Makes (lowered a) []))))
+    provided (is_each_row (given f.shapes) n a x) (without_arguments as' (Makes (lowered a) []))))
 
 -- gen i < n. gen j < m. b becomes transpose(gen j < m. gen i < n. b)
 abbrev pub swap_gen : Focus → List Arg → Meant

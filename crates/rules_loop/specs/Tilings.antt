@@ -17,7 +17,8 @@ use Rattle.path_focus.specs.Outcome.{Makes, Meant, Unfit, Unlike, without_argume
 use Rattle.path_focus.specs.declared.place.Focus.{Focus}
 use Rattle.path_focus.specs.declared.rule.Arg.{Arg}
 use Rattle.path_focus.specs.declared.rule.Arg.TheVariants.{Ix}
-use Rattle.rules_loop.specs.Patterns.{on_flatten, on_gen, on_sum}
+use Rattle.rule_parts.specs.Patterns.{on_gen, on_sum}
+use Rattle.rules_loop.specs.Patterns.{on_flatten}
 use Rattle.term_tree.specs.Scope.{largest_tile}
 use Rattle.term_tree.specs.Shape.{tiles}
 use Rattle.term_tree.specs.Syntax.{flatten, gen, guard, sum, trunc_r}

@@ -8,12 +8,13 @@ ghost use Rattle.term_tree.specs.Limits.{coefficients_fit, forms_short};
 ghost use Rattle.term_tree.specs.Syntax as tree;
 ghost use Rattle.term_tree.specs.declared.term.Term as spec;
 
-use crate::build::{add, concat, generating, mul, summed};
+use crate::build::{concat, generating, summed};
 use crate::drafts::{gen_of, sum_of, whole};
 use affine_index::{Aff, AffRefusal};
 use fact_list::CertRefusal;
 use owned_values::spent;
 use path_focus::Draft;
+use rule_parts::build::{add, mul};
 use std::alloc::Global;
 use term_tree::{Term, nodes, told};
 

@@ -20,11 +20,11 @@ ghost use Rattle.term_tree.specs.Syntax as tree;
 
 use crate::beside::{beside_gen, beside_sum, rest_of_gen, rest_of_sum};
 use crate::drafts::var;
-use crate::patterns::{as_gen, as_sum};
 use affine_index::{Aff, AffRefusal};
 use fact_list::{CertRefusal, Facts, copy_bounds, copy_cmps};
 use path_focus::making::{condition, not_negative, with_indices};
 use path_focus::{Arg, Condition, Draft, Focus, Outcome, Rewrite};
+use rule_parts::patterns::{as_gen, as_sum};
 use sqlite_items::Items;
 use std::alloc::Global;
 use term_tree::Term;

@@ -10,17 +10,18 @@ ghost use Rattle.term_tree.specs.Counts.{node_depth};
 ghost use Rattle.term_tree.specs.Syntax as tree;
 ghost use Rattle.term_tree.specs.declared.term.Term as spec;
 
-use crate::build::{copied_form, flatten, generated, sum, transpose};
+use crate::build::{flatten, transpose};
 use affine_index::Aff;
 use fact_list::CertRefusal;
 use path_focus::Draft;
 use path_focus::making::with_indices;
+use rule_parts::build::{copied_form, generated, sum};
 use sqlite_items::{Boxed, Items};
 use std::alloc::Global;
 use term_tree::{Term, told};
 
 /// A term whose forms are within the limits.
-#[tactic(auto, using(crate::proofs::DraftLaws::whole_is))]
+#[tactic(auto, using(rule_parts::proofs::DraftLaws::whole_is))]
 pub fn whole(term: Boxed<Term>) -> Draft
     ensures { IsDraft term result }
 {

@@ -9,12 +9,13 @@ ghost use Rattle.rules_loop.specs.Formed.{IsFormed, IsJoined};
 ghost use Rattle.term_tree.specs.Syntax as tree;
 ghost use Rattle.term_tree.specs.declared.term.Term as spec;
 
-use crate::build::{boxed, generated, sum};
+use crate::build::boxed;
 use crate::drafts::{more, whole};
 use affine_index::{Aff, AffRefusal, Cmp, Cond};
 use fact_list::CertRefusal;
 use owned_values::spent;
 use path_focus::Draft;
+use rule_parts::build::{generated, sum};
 use sqlite_items::{Boxed, Items};
 use std::alloc::Global;
 use term_tree::Term;

@@ -15,15 +15,16 @@ ghost use Rattle.rules_loop.specs.Tilings as table;
 ghost use Rattle.rules_loop.specs.Tilings.{IsTile};
 ghost use Rattle.term_tree.specs.Counts.{node_depth};
 
-use crate::build::drafted;
 use crate::drafts::{flatten_of, var};
 use crate::formed::{FormDraft, formed, gen_with};
-use crate::patterns::{as_flatten, as_gen};
+use crate::patterns::as_flatten;
 use crate::tilings::{in_tiles, tile_argument, tile_gens, tile_size};
 use affine_index::{Aff, Atom, Item};
 use fact_list::CertRefusal;
 use path_focus::making::with_indices;
 use path_focus::{Arg, Draft, Focus, Outcome};
+use rule_parts::build::drafted;
+use rule_parts::patterns::as_gen;
 use sqlite_items::Items;
 use std::alloc::Global;
 use term_tree::Term;

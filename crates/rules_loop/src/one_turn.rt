@@ -14,13 +14,14 @@ ghost use Rattle.rules_loop.specs.OneTurn as table;
 ghost use Rattle.term_tree.specs.Shape.{same_form};
 ghost use Rattle.term_tree.specs.Syntax as tree;
 
-use crate::build::{drafted, is_same, raised_form};
+use crate::build::is_same;
 use crate::drafts::var;
-use crate::patterns::{as_guard, as_sum};
 use affine_index::{Aff, AffRefusal, Cmp, Cond};
 use fact_list::CertRefusal;
 use path_focus::making::{lowered, one_of_rows, with_index};
 use path_focus::{Arg, Draft, Focus, Outcome, Rewrite};
+use rule_parts::build::{drafted, raised_form};
+use rule_parts::patterns::{as_guard, as_sum};
 use std::alloc::Global;
 use term_tree::Term;
 

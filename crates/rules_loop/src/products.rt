@@ -6,12 +6,12 @@ ghost use Rattle.path_focus.specs.Outcome.{IsOutcome};
 ghost use Rattle.rules_loop.specs.Table as table;
 
 use crate::beside::times_sum;
-use crate::build::drafted;
-use crate::patterns::{as_mul, as_sum};
 use binders::free_index;
 use fact_list::CertRefusal;
 use path_focus::making::lowered;
 use path_focus::{Arg, Focus, Outcome};
+use rule_parts::build::drafted;
+use rule_parts::patterns::{as_mul, as_sum};
 use std::alloc::Global;
 
 /// `sum i < n. a * b`, where a is free of i

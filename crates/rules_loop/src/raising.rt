@@ -7,20 +7,21 @@ ghost use Rattle.binders.specs.PlainMaps.{shift_reach};
 ghost use Rattle.path_focus.specs.Focus.{IsProper};
 ghost use Rattle.path_focus.specs.Making.{raised};
 ghost use Rattle.path_focus.specs.Outcome.{IsOutcome};
+ghost use Rattle.rule_parts.specs.Patterns as parts;
 ghost use Rattle.rules_loop.specs.Raising as table;
 ghost use Rattle.shape_rules.specs.Scopes.{IsScoped, all_free, given};
 ghost use Rattle.term_tree.specs.Counts.{node_count, node_depth};
 ghost use Rattle.term_tree.specs.Shape.{shape_of};
 ghost use Rattle.term_tree.specs.Syntax as tree;
 
-use crate::build::{copied, copied_form, generated, index, made, mul, sum};
 use crate::drafts::var;
-use crate::patterns::{as_mul, as_sum};
 use affine_index::Aff;
 use fact_list::CertRefusal;
 use owned_values::two;
 use path_focus::making::raised;
 use path_focus::{Arg, Focus, Outcome};
+use rule_parts::build::{copied, copied_form, generated, index, made, mul, sum};
+use rule_parts::patterns::{as_mul, as_sum};
 use shape_rules::extents::take_first;
 use shape_rules::{ShapeFault, Shapes, shape};
 use sqlite_items::Boxed;
@@ -52,7 +53,7 @@ pub fn mul_into_sum(alloc: Global, focus: &Focus, args: &[Arg]) -> Result<Outcom
 fn first_extent(alloc: Global, shapes: &Shapes, term: &Term) -> Result<Option<Aff>, CertRefusal>
     requires scoped { IsScoped shapes.now term.now }
     requires free { all_free (given shapes.now) ≡ true }
-    ensures { IfOk result (λ o. o ≡ table.first_extent (shape_of term.now (given shapes.now))) }
+    ensures { IfOk result (λ o. o ≡ parts.first_extent (shape_of term.now (given shapes.now))) }
 {
     match shape(alloc, shapes, term) {
         Ok(extents) => {
@@ -80,7 +81,7 @@ fn rows(alloc: Global, n: Aff, term: &Term) -> Result<Boxed<Term>, CertRefusal>
 /// The first extent of the term of a focus.
 fn extent_there(alloc: Global, focus: &Focus) -> Result<Option<Aff>, CertRefusal>
     requires { IsProper focus.now }
-    ensures { IfOk result (λ o. o ≡ table.first_extent (shape_of focus.now.term (given focus.now.shapes))) }
+    ensures { IfOk result (λ o. o ≡ parts.first_extent (shape_of focus.now.term (given focus.now.shapes))) }
 {
     first_extent(alloc, &focus.shapes, focus.term.get())
 }

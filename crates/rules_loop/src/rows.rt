@@ -11,14 +11,15 @@ ghost use Rattle.shape_rules.specs.Scopes.{IsScoped, all_free, given};
 ghost use Rattle.term_tree.specs.Counts.{node_depth};
 ghost use Rattle.term_tree.specs.Shape.{same_form, shape_of};
 
-use crate::build::{copied_form, drafted, is_same};
+use crate::build::is_same;
 use crate::drafts::var;
-use crate::patterns::{as_gen, as_index};
 use affine_index::Aff;
 use binders::free_index;
 use fact_list::CertRefusal;
 use path_focus::making::{lowered, one_of_rows, with_index};
 use path_focus::{Arg, Focus, Outcome, Rewrite};
+use rule_parts::build::{copied_form, drafted};
+use rule_parts::patterns::{as_gen, as_index};
 use shape_rules::extents::take_first;
 use shape_rules::{ShapeFault, Shapes, shape};
 use std::alloc::Global;
@@ -81,7 +82,7 @@ fn is_each_row(
     requires deep { node_depth array.now ≤ 2147483647 }
     requires scoped { IsScoped shapes.now array.now }
     requires free { all_free (given shapes.now) ≡ true }
-    ensures { IfOk result (λ b. b ≡ (same_form x.now (var_form 0) && (not (uses_index array.now 0) && is_first n.now (shape_of array.now (given shapes.now))))) }
+    ensures { IfOk result (λ b. b ≡ table.is_each_row (given shapes.now) n.now array.now x.now) }
 {
     if !is_innermost(alloc, x)? {
         return Ok(false);

@@ -6,14 +6,14 @@ ghost use Rattle.path_focus.specs.Outcome.{IsOutcome, Makes, without_arguments};
 ghost use Rattle.rules_loop.specs.Table as table;
 ghost use Rattle.term_tree.specs.Syntax as tree;
 
-use crate::build::{
-    add, copied, copied_form, index, is_same, made, raised_form, row, sub, sum, summed,
-};
-use crate::patterns::{as_add, as_index, as_sum};
+use crate::build::{is_same, row, summed};
+use crate::patterns::as_add;
 use affine_index::Aff;
 use fact_list::CertRefusal;
 use owned_values::two;
 use path_focus::{Arg, Focus, Outcome};
+use rule_parts::build::{add, copied, copied_form, index, made, raised_form, sub, sum};
+use rule_parts::patterns::{as_index, as_sum};
 use std::alloc::Global;
 use term_tree::Term;
 

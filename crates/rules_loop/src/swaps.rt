@@ -5,11 +5,11 @@ ghost use Rattle.path_focus.specs.Focus.{IsProper};
 ghost use Rattle.path_focus.specs.Outcome.{IsOutcome};
 ghost use Rattle.rules_loop.specs.Table as table;
 
-use crate::build::drafted;
 use crate::drafts::{gen_of, sum_of, swapped, transpose_of};
-use crate::patterns::{as_gen, as_sum};
 use fact_list::CertRefusal;
 use path_focus::{Arg, Focus, Outcome};
+use rule_parts::build::drafted;
+use rule_parts::patterns::{as_gen, as_sum};
 use std::alloc::Global;
 
 /// `gen i < n. gen j < m. b`

@@ -15,15 +15,15 @@ ghost use Rattle.term_tree.specs.Counts.{node_depth};
 ghost use Rattle.term_tree.specs.Syntax as tree;
 ghost use Rattle.term_tree.specs.declared.term.Term as spec;
 
-use crate::build::drafted;
 use crate::drafts::{flatten_of, var};
 use crate::formed::{FormDraft, formed, gen_with, guard_with, sum_with, trunc_with};
-use crate::patterns::{as_gen, as_sum};
 use affine_index::Aff;
 use fact_list::CertRefusal;
 use path_focus::forms::{in_tile, rest_below, tile_rest};
 use path_focus::making::with_indices;
 use path_focus::{Arg, Draft, Focus, Outcome};
+use rule_parts::build::drafted;
+use rule_parts::patterns::{as_gen, as_sum};
 use shape_rules::extents::tiles;
 use sqlite_items::Items;
 use std::alloc::Global;

@@ -12,7 +12,7 @@ use Rattle.term_tree.specs.declared.term.Term.{Term}
 use Rattle.rules_loop.specs.Cuts.{further, moved_by, within_extent}
 use Rattle.rules_loop.specs.Table as table
 use Rattle.rules_loop.proofs.CutArguments.{the_index}
-use Rattle.rules_loop.proofs.DraftLaws.{makes}
+use Rattle.rule_parts.proofs.DraftLaws.{makes}
 use Rattle.rules_loop.proofs.ReachLaws.{cut_reach}
 use Rattle.rules_loop.proofs.cuts.cut_sum.Goals as goal
 

@@ -1,4 +1,4 @@
-use Rattle.std.proofs.Common.{rules, ◌≡◌, ap, ◌∙◌, [], ◌∷◌, length, get_or, false}
+use Rattle.std.proofs.Common.{rules, ◌≡◌, ap, ◌∙◌, length, get_or, false}
 use Rattle.affine_index.specs.Limited.{items_scoped}
 use Rattle.path_focus.specs.declared.rule.Arg.TheVariants.{Ix}
 use Rattle.rules_loop.specs.Cuts.{with_cut}

@@ -2,7 +2,7 @@ use Rattle.std.proofs.Common.{◌≡◌, refl, subst, true}
 use Rattle.affine_index.specs.Normal.{is_normal}
 use Rattle.term_tree.specs.Limits.{every_form}
 use Rattle.term_tree.specs.declared.term.Term.{Term}
-use Rattle.rules_loop.proofs.DraftLaws.{whole_is}
+use Rattle.rule_parts.proofs.DraftLaws.{whole_is}
 use Rattle.rules_loop.proofs.drafts.whole.Goals as goal
 
 pub returns : goal.returns

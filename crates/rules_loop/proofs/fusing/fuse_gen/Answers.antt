@@ -6,7 +6,7 @@ use Rattle.term_tree.specs.Syntax.{flatten, gen}
 use Rattle.term_tree.specs.declared.term.Term.{Term}
 use Rattle.rules_loop.specs.Tilings as table
 use Rattle.rules_loop.specs.Tilings.{fused, tile_of, with_number}
-use Rattle.rules_loop.proofs.PatternLaws.{no_arguments}
+use Rattle.rule_parts.proofs.PatternLaws.{no_arguments}
 use Rattle.rules_loop.proofs.ReachLaws.{fuse_reach}
 use Rattle.rules_loop.proofs.TilingLaws.{tile_is}
 use Rattle.rules_loop.proofs.fusing.fuse_gen.Goals as goal

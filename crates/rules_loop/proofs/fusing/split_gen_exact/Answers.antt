@@ -7,7 +7,7 @@ use Rattle.term_tree.specs.Syntax.{flatten, gen}
 use Rattle.term_tree.specs.declared.term.Term.{Term}
 use Rattle.rules_loop.specs.Tilings as table
 use Rattle.rules_loop.specs.Tilings.{divides, in_tiles}
-use Rattle.rules_loop.proofs.DraftLaws.{unfit}
+use Rattle.rule_parts.proofs.DraftLaws.{unfit}
 use Rattle.rules_loop.proofs.ReachLaws.{tile_reach}
 use Rattle.rules_loop.proofs.fusing.split_gen_exact.Goals as goal
 

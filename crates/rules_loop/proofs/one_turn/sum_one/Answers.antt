@@ -6,8 +6,8 @@ use Rattle.path_focus.specs.Outcome.{IsOutcome, Makes, Meant, without_arguments}
 use Rattle.term_tree.specs.Shape.{same_form}
 use Rattle.term_tree.specs.declared.term.Term.{Term}
 use Rattle.rules_loop.specs.OneTurn as table
-use Rattle.rules_loop.specs.Patterns.{provided}
-use Rattle.rules_loop.proofs.PatternLaws.{no_arguments}
+use Rattle.rule_parts.specs.Patterns.{provided}
+use Rattle.rule_parts.proofs.PatternLaws.{no_arguments}
 use Rattle.rules_loop.proofs.TurnReach.{one_reach}
 use Rattle.rules_loop.proofs.one_turn.sum_one.Goals as goal
 

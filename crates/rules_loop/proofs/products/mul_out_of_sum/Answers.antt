@@ -1,13 +1,13 @@
-use Rattle.std.proofs.Common.{rules, ◌≡◌, ap, refl, sym, subst, ◌∙◌, ◌<◌, ◌≤◌, [], length, not, true, false}
+use Rattle.std.proofs.Common.{rules, ◌≡◌, ap, sym, subst, ◌∙◌, ◌≤◌, [], length, not, true, false}
 use Rattle.binders.specs.Uses.{uses_index}
 use Rattle.path_focus.specs.Making.{lowered}
 use Rattle.path_focus.specs.Outcome.{IsOutcome, Makes, Meant, without_arguments}
 use Rattle.term_tree.specs.Syntax.{mul, sum}
 use Rattle.term_tree.specs.declared.term.Term.{Term}
-use Rattle.rules_loop.specs.Patterns.{provided}
+use Rattle.rule_parts.specs.Patterns.{provided}
 use Rattle.rules_loop.specs.Table as table
-use Rattle.rules_loop.proofs.DraftLaws.{unfit, unlike}
-use Rattle.rules_loop.proofs.PatternLaws.{no_arguments, some_arguments}
+use Rattle.rule_parts.proofs.DraftLaws.{unlike}
+use Rattle.rule_parts.proofs.PatternLaws.{no_arguments}
 use Rattle.rules_loop.proofs.ReachLaws.{factor_reach}
 use Rattle.rules_loop.proofs.products.mul_out_of_sum.Goals as goal
 

@@ -7,8 +7,8 @@ use Rattle.path_focus.specs.Outcome.{IsDraft}
 use Rattle.term_tree.specs.Syntax.{index}
 use Rattle.term_tree.specs.declared.term.Term.{Term}
 use Rattle.rules_loop.specs.Table as table
-use Rattle.rules_loop.proofs.DraftLaws.{makes}
-use Rattle.rules_loop.proofs.PatternLaws.{no_arguments}
+use Rattle.rule_parts.proofs.DraftLaws.{makes}
+use Rattle.rule_parts.proofs.PatternLaws.{no_arguments}
 use Rattle.rules_loop.proofs.ReachLaws.{beta_reach}
 use Rattle.rules_loop.proofs.rows.beta.Goals as goal
 

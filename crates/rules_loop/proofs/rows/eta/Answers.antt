@@ -7,9 +7,10 @@ use Rattle.shape_rules.specs.Scopes.{given}
 use Rattle.term_tree.specs.Shape.{same_form, shape_of}
 use Rattle.term_tree.specs.Syntax.{gen}
 use Rattle.term_tree.specs.declared.term.Term.{Term}
-use Rattle.rules_loop.specs.Patterns.{is_first, provided}
+use Rattle.rule_parts.specs.Patterns.{provided}
+use Rattle.rules_loop.specs.Patterns.{is_first}
 use Rattle.rules_loop.specs.Table as table
-use Rattle.rules_loop.proofs.PatternLaws.{no_arguments}
+use Rattle.rule_parts.proofs.PatternLaws.{no_arguments}
 use Rattle.rules_loop.proofs.ReachLaws.{array_scoped, lowered_reach}
 use Rattle.rules_loop.proofs.rows.eta.Goals as goal
 

@@ -4,8 +4,8 @@ use Rattle.term_tree.specs.Syntax.{add, index, sub}
 use Rattle.term_tree.specs.declared.term.Term.{Term}
 use Rattle.term_tree.proofs.Forms.{Add-is, Sub-is}
 use Rattle.rules_loop.specs.Table as table
-use Rattle.rules_loop.proofs.DraftLaws.{unlike}
-use Rattle.rules_loop.proofs.Parts.{not_either}
+use Rattle.rule_parts.proofs.DraftLaws.{unlike}
+use Rattle.rule_parts.proofs.Parts.{not_either}
 use Rattle.rules_loop.proofs.sums.add_index.Goals as goal
 
 pub returns-in-Add : goal.returns-in-Add

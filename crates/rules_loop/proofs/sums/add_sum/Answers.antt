@@ -3,9 +3,9 @@ use Rattle.path_focus.specs.Outcome.{IsOutcome, Makes, Meant, without_arguments}
 use Rattle.term_tree.specs.Shape.{same_form}
 use Rattle.term_tree.specs.Syntax.{add, sum}
 use Rattle.term_tree.specs.declared.term.Term.{Term}
-use Rattle.rules_loop.specs.Patterns.{provided}
+use Rattle.rule_parts.specs.Patterns.{provided}
 use Rattle.rules_loop.specs.Table as table
-use Rattle.rules_loop.proofs.DraftLaws.{unlike}
+use Rattle.rule_parts.proofs.DraftLaws.{unlike}
 use Rattle.rules_loop.proofs.sums.add_sum.Goals as goal
 
 pub returns-then-not-is_same : goal.returns-then-not-is_same

@@ -4,7 +4,7 @@ use Rattle.term_tree.specs.Syntax.{sum}
 use Rattle.term_tree.specs.declared.term.Term.{Term}
 use Rattle.rules_loop.specs.Table as table
 use Rattle.rules_loop.specs.Table.{swapped}
-use Rattle.rules_loop.proofs.PatternLaws.{no_arguments}
+use Rattle.rule_parts.proofs.PatternLaws.{no_arguments}
 use Rattle.rules_loop.proofs.ReachLaws.{swap_reach_at}
 use Rattle.rules_loop.proofs.swaps.swap_sum.Goals as goal
 
