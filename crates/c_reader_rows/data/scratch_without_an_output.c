@@ -1,0 +1,4 @@
+#include <stdint.h>
+static int64_t top(int64_t x, int64_t y) { return x > y ? x : y; }
+static void fill(uint64_t *p, int64_t at, int64_t n) { for (int64_t i = 0; i < n; i = i + 1) p[at + i] = 0; }
+int64_t len_s0(void) { return INT64_C(1); }
