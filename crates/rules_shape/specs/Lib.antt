@@ -1,0 +1,5 @@
+pub mod Formed
+pub mod Patterns
+pub mod Ring
+pub mod Indices
+pub mod Rules

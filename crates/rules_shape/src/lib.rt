@@ -1,0 +1,14 @@
+//! Rules of tensors whose rows are moved, cut, joined or added, and laws of arithmetic on words.
+#![tactic(auto)]
+
+mod extents;
+mod folding;
+mod formed;
+pub mod laws;
+mod patterns;
+mod ring;
+mod rows;
+mod rules;
+mod words;
+
+pub use rules::{ShapeRule, apply, conditions};
