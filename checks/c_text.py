@@ -87,6 +87,13 @@ SCHEDULED = [
         "atl 1; size N in 0..5; size M in 0..5; example N = 3, M = 2; input A[N][M]; output B = sum i < N. gen j < M. A[i][j];",
         "schedule 1; at 0 do sum_gen; at 0 do gen_sum; at 0 do sum_gen;",
     ),
+    (SCALE % "A[i + 1]", "schedule 1; at 0.0 do access_guard;"),
+    (SCALE % "let t = A[i] * A[i] in t + 3 * t", "schedule 1; at 0 do let_out_of_gen; at 0.1.0 do ring(add_comm);"),
+    (SCALE % "let t = A[N - 1 - i] in t * t", "schedule 1; at 0.0 do let_inline; at 0.0 do guard_cases(i0 >= 2);"),
+    (
+        "atl 1; size N in 0..5; size M in 1..5; example N = 3, M = 2; input A[N]; input C[M]; output B = gen i < M. concat(A, C)[N + i];",
+        "schedule 1; at 0.0 do concat_index_right;",
+    ),
 ]
 
 TOKEN = re.compile(r"[ \t\r\n]+|#[^\n]*|(?P<t>[A-Za-z_]\w*|[0-9]+|\.\.|<=|>=|==|[;,.\[\]()<>=+*/%-])")

@@ -1,6 +1,6 @@
 //! Sources under scripts: the texts of last versions, and first faults.
 
-use crate::calls::{compiles, compiles_under, is_refused};
+use crate::calls::{becomes, compiles, compiles_under, is_refused};
 use crate::lowered::BY_FOURS_LINES;
 use std::alloc::{AllocError, Global};
 use std::test::Fail;
@@ -269,5 +269,72 @@ fn a_script_has_up_to_a_thousand_steps(rt: HostRuntime) -> Result<(), Fail> {
         PAIRS,
         last.as_str(),
         "F23 PatternMismatch step 1000\n",
+    )
+}
+
+// The row behind the last, which a guard takes away.
+const NEXT: &str =
+    "atl 1; size N in 0..8; example N = 3; input A[N]; output B = gen i < N. A[i + 1];";
+
+const GUARDED_NEXT: &str =
+    "atl 1; size N in 0..8; example N = 3; input A[N]; output B = gen i < N. guard i + 1 >= 0 and i + 1 < N. A[i + 1];";
+
+const SHARED: &str =
+    "atl 1; size N in 0..8; size M in 0..8; example N = 1, M = 1; input A[N]; input W[M]; \
+     output B = gen i < N. let t = A[i] in sum i < M. W[i] * t;";
+
+const INLINED: &str =
+    "atl 1; size N in 0..8; size M in 0..8; example N = 1, M = 1; input A[N]; input W[M]; \
+     output B = gen i < N. sum j < M. W[j] * A[i];";
+
+#[test]
+fn steps_of_guards_and_lets_make_sources_of_their_results(rt: HostRuntime) -> Result<(), Fail> {
+    let alloc = rt.alloc();
+    is_refused(
+        &rt,
+        alloc,
+        NEXT,
+        "schedule 1;",
+        "F31 AccessNotShown goal 2\n",
+    )?;
+    becomes(
+        &rt,
+        alloc,
+        NEXT,
+        "schedule 1; at 0.0 do access_guard;",
+        GUARDED_NEXT,
+    )?;
+    becomes(
+        &rt,
+        alloc,
+        SHARED,
+        "schedule 1; at 0.0 do let_inline;",
+        INLINED,
+    )
+}
+
+const TWO: &str = "atl 1; input A[2]; output B = A[0] + A[1];";
+
+/// A script of so many exchanges of the operands of a sum.
+fn exchanges(alloc: Global, steps: u32) -> Result<String, AllocError> {
+    let mut text = String::from_str(alloc, "schedule 1;")?;
+    for _ in 0..steps {
+        text.push_str(" at 0 do ring(add_comm);")?;
+    }
+    Ok(text)
+}
+
+#[test]
+fn operands_are_exchanged_up_to_a_thousand_times(rt: HostRuntime) -> Result<(), Fail> {
+    let alloc = rt.alloc();
+    let most = exchanges(alloc, 1000)?;
+    becomes(&rt, alloc, TWO, most.as_str(), TWO)?;
+    let more = exchanges(alloc, 1001)?;
+    is_refused(
+        &rt,
+        alloc,
+        TWO,
+        more.as_str(),
+        "F20 ScriptSyntax at 24012\n",
     )
 }

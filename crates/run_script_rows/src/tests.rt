@@ -75,7 +75,7 @@ fn broken(kind: StepKind) -> (u64, u64) {
 }
 
 /// How a script ends: without a fault, or at a step and a rule that it breaks.
-fn ending(alloc: Global, text: &str, steps: &str) -> Option<(u64, u64, u64)> {
+pub fn ending(alloc: Global, text: &str, steps: &str) -> Option<(u64, u64, u64)> {
     let module = source(alloc, text)?;
     let script = script(alloc, steps)?;
     match last_version(alloc, module, &script) {
@@ -105,7 +105,7 @@ fn are_same(a: &Module, b: &Module) -> bool {
 }
 
 /// Whether a script makes so many versions of a source, of which this source has the last.
-fn becomes(alloc: Global, text: &str, steps: &str, count: usize, last: &str) -> Option<bool> {
+pub fn becomes(alloc: Global, text: &str, steps: &str, count: usize, last: &str) -> Option<bool> {
     let wanted = source(alloc, last)?;
     let script = script(alloc, steps)?;
     let module = source(alloc, text)?;
@@ -120,7 +120,7 @@ const ROW: &str = "atl 1; size N in 0..8; example N = 3; input A[N]; output B = 
 const GRID: &str =
     "atl 1; size N in 0..8; size M in 0..8; example N = 1, M = 2; input A[N][M]; output B = ";
 
-fn joined(alloc: Global, declared: &str, term: &str) -> Result<String, Fail> {
+pub fn joined(alloc: Global, declared: &str, term: &str) -> Result<String, Fail> {
     Ok(format!(in alloc; "{declared}{term};")?)
 }
 

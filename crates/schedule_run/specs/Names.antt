@@ -1,70 +1,107 @@
 -- Rules by their names in scripts.
-use Rattle.std.specs.Prelude.{if◌then◌else◌, bytes_eq, codes, List, Option, Some, None}
-use Rattle.std.specs.Option.{option_map}
+use Rattle.std.specs.Prelude.{if◌then◌else◌, bytes_eq, codes, List, [], ◌∷◌, Option, Some, None}
 use Rattle.path_focus.specs.Outcome.{Meant}
 use Rattle.path_focus.specs.declared.place.Focus.{Focus}
 use Rattle.path_focus.specs.declared.rule.Arg.{Arg}
-use Rattle.rules_loop.specs.Rules.{rule_of}
-use Rattle.rules_loop.specs.declared.rules.LoopRule.{LoopRule}
+use Rattle.rules_guard.specs.Rules as guard_table
+use Rattle.rules_guard.specs.declared.rules.GuardRule.TheVariants as guard
+use Rattle.rules_let.specs.Rules as let_table
+use Rattle.rules_let.specs.declared.rules.LetRule.TheVariants as lets
+use Rattle.rules_loop.specs.Rules as loop_table
 use Rattle.rules_loop.specs.declared.rules.LoopRule.TheVariants as loop
+use Rattle.rules_shape.specs.Rules as shape_table
+use Rattle.rules_shape.specs.declared.rules.ShapeRule.TheVariants as shape
 use Rattle.schedule_run.specs.declared.names.Rule.{Rule}
-use Rattle.schedule_run.specs.declared.names.Rule.TheVariants.{Loop}
+use Rattle.schedule_run.specs.declared.names.Rule.TheVariants.{Loop, Let, Guard, Shape}
 use Rattle.script_arguments.specs.Names.{or_else}
 use Rattle.text_tokens.specs.Kinds.{Text}
 
--- a rule of gens
-abbrev pub gen_rule : Text → Option LoopRule
-gen_rule t =
-    if bytes_eq t (codes "beta") then Some loop.Beta
-    else (if bytes_eq t (codes "eta") then Some loop.Eta
-    else (if bytes_eq t (codes "swap_gen") then Some loop.SwapGen
-    else (if bytes_eq t (codes "gen_sum") then Some loop.GenSum
-    else (if bytes_eq t (codes "cut_gen") then Some loop.CutGen else None))))
+abbrev pub Names : Type 0
+Names = List (Text × Rule)
 
--- a rule of sums
-abbrev pub sum_rule : Text → Option LoopRule
-sum_rule t =
-    if bytes_eq t (codes "swap_sum") then Some loop.SwapSum
-    else (if bytes_eq t (codes "sum_gen") then Some loop.SumGen
-    else (if bytes_eq t (codes "sum_index") then Some loop.SumIndex
-    else (if bytes_eq t (codes "sum_add") then Some loop.SumAdd
-    else (if bytes_eq t (codes "cut_sum") then Some loop.CutSum
-    else (if bytes_eq t (codes "mul_out_of_sum") then Some loop.MulOutOfSum else None)))))
+-- rules of gens and sums
+abbrev pub loop_rules : Names
+loop_rules =
+    (codes "beta", Loop loop.Beta)
+    ∷ (codes "eta", Loop loop.Eta)
+    ∷ (codes "uneta", Loop loop.Uneta)
+    ∷ (codes "split_gen", Loop loop.SplitGen)
+    ∷ (codes "split_gen_exact", Loop loop.SplitGenExact)
+    ∷ (codes "fuse_gen", Loop loop.FuseGen)
+    ∷ (codes "swap_gen", Loop loop.SwapGen)
+    ∷ (codes "cut_gen", Loop loop.CutGen)
+    ∷ (codes "split_sum", Loop loop.SplitSum)
+    ∷ (codes "swap_sum", Loop loop.SwapSum)
+    ∷ (codes "cut_sum", Loop loop.CutSum)
+    ∷ (codes "sum_gen", Loop loop.SumGen)
+    ∷ (codes "gen_sum", Loop loop.GenSum)
+    ∷ (codes "sum_index", Loop loop.SumIndex)
+    ∷ (codes "sum_one", Loop loop.SumOne)
+    ∷ (codes "sum_pick", Loop loop.SumPick)
+    ∷ (codes "sum_add", Loop loop.SumAdd)
+    ∷ (codes "add_sum", Loop loop.AddSum)
+    ∷ (codes "mul_into_sum", Loop loop.MulIntoSum)
+    ∷ (codes "mul_out_of_sum", Loop loop.MulOutOfSum)
+    ∷ (codes "add_index", Loop loop.AddIndex)
+    ∷ []
 
--- a rule of sums and differences of two terms
-abbrev pub add_rule : Text → Option LoopRule
-add_rule t =
-    if bytes_eq t (codes "add_sum") then Some loop.AddSum
-    else (if bytes_eq t (codes "add_index") then Some loop.AddIndex else None)
+-- rules of lets
+abbrev pub let_rules : Names
+let_rules =
+    (codes "let_intro", Let lets.LetIntro)
+    ∷ (codes "let_inline", Let lets.LetInline)
+    ∷ (codes "let_use", Let lets.LetUse)
+    ∷ (codes "let_out_of_gen", Let lets.LetOutOfGen)
+    ∷ (codes "let_lift_gen", Let lets.LetLiftGen)
+    ∷ (codes "let_out_of_sum", Let lets.LetOutOfSum)
+    ∷ (codes "let_index", Let lets.LetIndex)
+    ∷ (codes "let_guard", Let lets.LetGuard)
+    ∷ (codes "let_let", Let lets.LetLet)
+    ∷ (codes "let_drop", Let lets.LetDrop)
+    ∷ (codes "let_op", Let lets.LetOp)
+    ∷ []
 
--- a rule of gens and sums in tiles
-abbrev pub tile_rule : Text → Option LoopRule
-tile_rule t =
-    if bytes_eq t (codes "split_gen") then Some loop.SplitGen
-    else (if bytes_eq t (codes "split_gen_exact") then Some loop.SplitGenExact
-    else (if bytes_eq t (codes "split_sum") then Some loop.SplitSum
-    else (if bytes_eq t (codes "fuse_gen") then Some loop.FuseGen else None)))
+-- rules of guards
+abbrev pub guard_rules : Names
+guard_rules =
+    (codes "guard_intro", Guard guard.GuardIntro)
+    ∷ (codes "guard_elim", Guard guard.GuardElim)
+    ∷ (codes "guard_merge", Guard guard.GuardMerge)
+    ∷ (codes "guard_part", Guard guard.GuardPart)
+    ∷ (codes "guard_gen", Guard guard.GuardGen)
+    ∷ (codes "gen_guard", Guard guard.GenGuard)
+    ∷ (codes "guard_sum", Guard guard.GuardSum)
+    ∷ (codes "guard_add", Guard guard.GuardAdd)
+    ∷ (codes "guard_mul", Guard guard.GuardMul)
+    ∷ (codes "guard_index", Guard guard.GuardIndex)
+    ∷ (codes "guard_cases", Guard guard.GuardCases)
+    ∷ (codes "access_guard", Guard guard.AccessGuard)
+    ∷ []
 
--- a rule of sums of which one turn counts, or of a term under one more gen or sum
-abbrev pub turn_rule : Text → Option LoopRule
-turn_rule t =
-    if bytes_eq t (codes "sum_one") then Some loop.SumOne
-    else (if bytes_eq t (codes "sum_pick") then Some loop.SumPick
-    else (if bytes_eq t (codes "uneta") then Some loop.Uneta
-    else (if bytes_eq t (codes "mul_into_sum") then Some loop.MulIntoSum else None)))
+-- rules of shapes, and laws of arithmetic on words
+abbrev pub shape_rules : Names
+shape_rules =
+    (codes "padl_index", Shape shape.PadlIndex)
+    ∷ (codes "padr_index", Shape shape.PadrIndex)
+    ∷ (codes "truncl_index", Shape shape.TrunclIndex)
+    ∷ (codes "truncr_index", Shape shape.TruncrIndex)
+    ∷ (codes "concat_index_left", Shape shape.ConcatIndexLeft)
+    ∷ (codes "concat_index_right", Shape shape.ConcatIndexRight)
+    ∷ (codes "ring", Shape shape.Ring)
+    ∷ []
 
--- one of either
-abbrev pub tile_or_turn_rule : Text → Option LoopRule
-tile_or_turn_rule t = or_else (tile_rule t) (turn_rule t)
+-- the first rule of this name
+abbrev pub among : Names → Text → Option Rule
+among [] t = None
+among (named ∷ rest) t = if bytes_eq t named.0 then Some named.1 else among rest t
 
--- a rule of gens and sums
-abbrev pub loop_rule : Text → Option LoopRule
-loop_rule t = or_else (gen_rule t) (or_else (sum_rule t) (or_else (add_rule t) (tile_or_turn_rule t)))
-
--- the rule of this name, of the families that are built
+-- the rule of this name, of the four families
 abbrev pub rule_named : Text → Option Rule
-rule_named t = option_map Loop (loop_rule t)
+rule_named t = or_else (among loop_rules t) (or_else (among let_rules t) (or_else (among guard_rules t) (among shape_rules t)))
 
 -- what a rule makes of a focus and arguments
 abbrev pub meant_by : Rule → Focus → List Arg → Meant
-meant_by (Loop r) f as' = rule_of f r as'
+meant_by (Loop r) f as' = loop_table.rule_of f r as'
+meant_by (Let r) f as' = let_table.rule_of f r as'
+meant_by (Guard r) f as' = guard_table.rule_of f r as'
+meant_by (Shape r) f as' = shape_table.rule_of f r as'

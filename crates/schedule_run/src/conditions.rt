@@ -30,6 +30,9 @@ fn conditions(
 {
     match rule {
         Rule::Loop(rule) => rules_loop::conditions(alloc, focus, rule, args),
+        Rule::Let(rule) => rules_let::conditions(alloc, focus, rule, args),
+        Rule::Guard(rule) => rules_guard::conditions(alloc, focus, rule, args),
+        Rule::Shape(rule) => rules_shape::conditions(alloc, focus, rule, args),
     }
 }
 

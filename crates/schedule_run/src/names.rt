@@ -1,119 +1,136 @@
 //! Rules by their names in scripts.
 
-ghost use Rattle.std.specs.Prelude.{◌≡◌};
+ghost use Rattle.std.specs.Prelude.{◌≡◌, map};
 ghost use Rattle.schedule_run.specs.Names as spec;
+ghost use Rattle.script_arguments.specs.Names.{or_else};
 
+use rules_guard::GuardRule;
+use rules_let::LetRule;
 use rules_loop::LoopRule;
+use rules_shape::ShapeRule;
 
-/// A rule of one of the families that are built.
+/// A rule of one of the families.
 #[derive(Clone, Copy)]
 pub enum Rule {
     Loop(LoopRule),
+    Let(LetRule),
+    Guard(GuardRule),
+    Shape(ShapeRule),
 }
 
-fn gen_rule(name: &str) -> Option<LoopRule>
-    ensures { result ≡ spec.gen_rule name.now }
+/// The first rule of this name.
+fn among(mut table: &[(&str, Rule)], name: &str) -> Option<Rule>
+    ensures { result ≡ spec.among (map (λ e. (e.0.now, e.1)) table.entry.now) name.now }
 {
-    if name == "beta" {
-        Some(LoopRule::Beta)
-    } else if name == "eta" {
-        Some(LoopRule::Eta)
-    } else if name == "swap_gen" {
-        Some(LoopRule::SwapGen)
-    } else if name == "gen_sum" {
-        Some(LoopRule::GenSum)
-    } else if name == "cut_gen" {
-        Some(LoopRule::CutGen)
-    } else {
-        None
+    while let [(text, rule), rest @ ..] = table {
+        if name == *text {
+            return Some(*rule);
+        }
+        table = rest;
     }
+    None
 }
 
-fn sum_rule(name: &str) -> Option<LoopRule>
-    ensures { result ≡ spec.sum_rule name.now }
+fn loop_rule(name: &str) -> Option<Rule>
+    ensures { result ≡ spec.among spec.loop_rules name.now }
 {
-    if name == "swap_sum" {
-        Some(LoopRule::SwapSum)
-    } else if name == "sum_gen" {
-        Some(LoopRule::SumGen)
-    } else if name == "sum_index" {
-        Some(LoopRule::SumIndex)
-    } else if name == "sum_add" {
-        Some(LoopRule::SumAdd)
-    } else if name == "cut_sum" {
-        Some(LoopRule::CutSum)
-    } else if name == "mul_out_of_sum" {
-        Some(LoopRule::MulOutOfSum)
-    } else {
-        None
-    }
+    among(
+        &[
+            ("beta", Rule::Loop(LoopRule::Beta)),
+            ("eta", Rule::Loop(LoopRule::Eta)),
+            ("uneta", Rule::Loop(LoopRule::Uneta)),
+            ("split_gen", Rule::Loop(LoopRule::SplitGen)),
+            ("split_gen_exact", Rule::Loop(LoopRule::SplitGenExact)),
+            ("fuse_gen", Rule::Loop(LoopRule::FuseGen)),
+            ("swap_gen", Rule::Loop(LoopRule::SwapGen)),
+            ("cut_gen", Rule::Loop(LoopRule::CutGen)),
+            ("split_sum", Rule::Loop(LoopRule::SplitSum)),
+            ("swap_sum", Rule::Loop(LoopRule::SwapSum)),
+            ("cut_sum", Rule::Loop(LoopRule::CutSum)),
+            ("sum_gen", Rule::Loop(LoopRule::SumGen)),
+            ("gen_sum", Rule::Loop(LoopRule::GenSum)),
+            ("sum_index", Rule::Loop(LoopRule::SumIndex)),
+            ("sum_one", Rule::Loop(LoopRule::SumOne)),
+            ("sum_pick", Rule::Loop(LoopRule::SumPick)),
+            ("sum_add", Rule::Loop(LoopRule::SumAdd)),
+            ("add_sum", Rule::Loop(LoopRule::AddSum)),
+            ("mul_into_sum", Rule::Loop(LoopRule::MulIntoSum)),
+            ("mul_out_of_sum", Rule::Loop(LoopRule::MulOutOfSum)),
+            ("add_index", Rule::Loop(LoopRule::AddIndex)),
+        ],
+        name,
+    )
 }
 
-fn add_rule(name: &str) -> Option<LoopRule>
-    ensures { result ≡ spec.add_rule name.now }
+fn let_rule(name: &str) -> Option<Rule>
+    ensures { result ≡ spec.among spec.let_rules name.now }
 {
-    if name == "add_sum" {
-        Some(LoopRule::AddSum)
-    } else if name == "add_index" {
-        Some(LoopRule::AddIndex)
-    } else {
-        None
-    }
+    among(
+        &[
+            ("let_intro", Rule::Let(LetRule::LetIntro)),
+            ("let_inline", Rule::Let(LetRule::LetInline)),
+            ("let_use", Rule::Let(LetRule::LetUse)),
+            ("let_out_of_gen", Rule::Let(LetRule::LetOutOfGen)),
+            ("let_lift_gen", Rule::Let(LetRule::LetLiftGen)),
+            ("let_out_of_sum", Rule::Let(LetRule::LetOutOfSum)),
+            ("let_index", Rule::Let(LetRule::LetIndex)),
+            ("let_guard", Rule::Let(LetRule::LetGuard)),
+            ("let_let", Rule::Let(LetRule::LetLet)),
+            ("let_drop", Rule::Let(LetRule::LetDrop)),
+            ("let_op", Rule::Let(LetRule::LetOp)),
+        ],
+        name,
+    )
 }
 
-fn tile_rule(name: &str) -> Option<LoopRule>
-    ensures { result ≡ spec.tile_rule name.now }
+fn guard_rule(name: &str) -> Option<Rule>
+    ensures { result ≡ spec.among spec.guard_rules name.now }
 {
-    if name == "split_gen" {
-        Some(LoopRule::SplitGen)
-    } else if name == "split_gen_exact" {
-        Some(LoopRule::SplitGenExact)
-    } else if name == "split_sum" {
-        Some(LoopRule::SplitSum)
-    } else if name == "fuse_gen" {
-        Some(LoopRule::FuseGen)
-    } else {
-        None
-    }
+    among(
+        &[
+            ("guard_intro", Rule::Guard(GuardRule::GuardIntro)),
+            ("guard_elim", Rule::Guard(GuardRule::GuardElim)),
+            ("guard_merge", Rule::Guard(GuardRule::GuardMerge)),
+            ("guard_part", Rule::Guard(GuardRule::GuardPart)),
+            ("guard_gen", Rule::Guard(GuardRule::GuardGen)),
+            ("gen_guard", Rule::Guard(GuardRule::GenGuard)),
+            ("guard_sum", Rule::Guard(GuardRule::GuardSum)),
+            ("guard_add", Rule::Guard(GuardRule::GuardAdd)),
+            ("guard_mul", Rule::Guard(GuardRule::GuardMul)),
+            ("guard_index", Rule::Guard(GuardRule::GuardIndex)),
+            ("guard_cases", Rule::Guard(GuardRule::GuardCases)),
+            ("access_guard", Rule::Guard(GuardRule::AccessGuard)),
+        ],
+        name,
+    )
 }
 
-fn turn_rule(name: &str) -> Option<LoopRule>
-    ensures { result ≡ spec.turn_rule name.now }
+fn shape_rule(name: &str) -> Option<Rule>
+    ensures { result ≡ spec.among spec.shape_rules name.now }
 {
-    if name == "sum_one" {
-        Some(LoopRule::SumOne)
-    } else if name == "sum_pick" {
-        Some(LoopRule::SumPick)
-    } else if name == "uneta" {
-        Some(LoopRule::Uneta)
-    } else if name == "mul_into_sum" {
-        Some(LoopRule::MulIntoSum)
-    } else {
-        None
-    }
+    among(
+        &[
+            ("padl_index", Rule::Shape(ShapeRule::PadlIndex)),
+            ("padr_index", Rule::Shape(ShapeRule::PadrIndex)),
+            ("truncl_index", Rule::Shape(ShapeRule::TrunclIndex)),
+            ("truncr_index", Rule::Shape(ShapeRule::TruncrIndex)),
+            ("concat_index_left", Rule::Shape(ShapeRule::ConcatIndexLeft)),
+            (
+                "concat_index_right",
+                Rule::Shape(ShapeRule::ConcatIndexRight),
+            ),
+            ("ring", Rule::Shape(ShapeRule::Ring)),
+        ],
+        name,
+    )
 }
 
-fn tile_or_turn_rule(name: &str) -> Option<LoopRule>
-    ensures { result ≡ spec.tile_or_turn_rule name.now }
+fn guard_or_shape_rule(name: &str) -> Option<Rule>
+    ensures { result ≡ or_else (spec.among spec.guard_rules name.now) (spec.among spec.shape_rules name.now) }
 {
-    match tile_rule(name) {
+    match guard_rule(name) {
         Some(rule) => Some(rule),
-        None => turn_rule(name),
-    }
-}
-
-fn loop_rule(name: &str) -> Option<LoopRule>
-    ensures { result ≡ spec.loop_rule name.now }
-{
-    match gen_rule(name) {
-        Some(rule) => Some(rule),
-        None => match sum_rule(name) {
-            Some(rule) => Some(rule),
-            None => match add_rule(name) {
-                Some(rule) => Some(rule),
-                None => tile_or_turn_rule(name),
-            },
-        },
+        None => shape_rule(name),
     }
 }
 
@@ -122,7 +139,10 @@ pub fn rule_named(name: &str) -> Option<Rule>
     ensures { result ≡ spec.rule_named name.now }
 {
     match loop_rule(name) {
-        Some(rule) => Some(Rule::Loop(rule)),
-        None => None,
+        Some(rule) => Some(rule),
+        None => match let_rule(name) {
+            Some(rule) => Some(rule),
+            None => guard_or_shape_rule(name),
+        },
     }
 }

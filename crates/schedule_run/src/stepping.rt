@@ -45,6 +45,9 @@ fn apply(
 {
     match rule {
         Rule::Loop(rule) => rules_loop::apply(alloc, focus, rule, args, lines),
+        Rule::Let(rule) => rules_let::apply(alloc, focus, rule, args, lines),
+        Rule::Guard(rule) => rules_guard::apply(alloc, focus, rule, args, lines),
+        Rule::Shape(rule) => rules_shape::apply(alloc, focus, rule, args, lines),
     }
 }
 
