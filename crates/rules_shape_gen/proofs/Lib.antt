@@ -1,0 +1,13 @@
+pub mod ConcatLaws
+pub mod DraftLaws
+pub mod FormedLaws
+pub mod KeptLaws
+pub mod PadLaws
+pub mod Parts
+pub mod ReachLaws
+pub mod RowLaws
+pub mod Shapes
+pub mod TileLaws
+pub mod TruncLaws
+pub mod ValueLaws
+pub mod Unconditional

@@ -1,0 +1,5 @@
+use Rattle.rules_shape_gen.proofs.PadLaws.{pad_gen_l_keeps as law}
+use Rattle.rules_shape_gen.proofs.laws.pad_gen_l_keeps.Goals as goal
+
+pub returns : goal.returns
+returns c = law

@@ -1,0 +1,30 @@
+-- Patterns of rules: what is made of the parts of a term of this form, or that it has another one.
+use Rattle.std.specs.Prelude.{ℕ}
+use Rattle.affine_index.specs.declared.form.Items.{Items}
+use Rattle.path_focus.specs.Outcome.{Meant, Unlike}
+use Rattle.term_tree.specs.Syntax.{concat, split, trunc_l, trunc_r, pad_l, pad_r}
+use Rattle.term_tree.specs.declared.term.Term.{Term}
+
+abbrev pub on_concat : Term → (Term → Term → Meant) → Meant
+on_concat (concat a b) f = f a b
+on_concat _ f = Unlike
+
+abbrev pub on_split : Term → (ℕ → Term → Meant) → Meant
+on_split (split k e) f = f k e
+on_split _ f = Unlike
+
+abbrev pub on_trunc_l : Term → (Items → Term → Meant) → Meant
+on_trunc_l (trunc_l a e) f = f a e
+on_trunc_l _ f = Unlike
+
+abbrev pub on_trunc_r : Term → (Items → Term → Meant) → Meant
+on_trunc_r (trunc_r a e) f = f a e
+on_trunc_r _ f = Unlike
+
+abbrev pub on_pad_l : Term → (Items → Term → Meant) → Meant
+on_pad_l (pad_l a e) f = f a e
+on_pad_l _ f = Unlike
+
+abbrev pub on_pad_r : Term → (Items → Term → Meant) → Meant
+on_pad_r (pad_r a e) f = f a e
+on_pad_r _ f = Unlike
