@@ -1,0 +1,10 @@
+pub mod AtomLaws
+pub mod CallLaws
+pub mod CmpLaws
+pub mod ListedLaws
+pub mod NarrowLaws
+pub mod PlaceLaws
+pub mod QuotientLaws
+pub mod RangeForms
+pub mod SumDrafts
+pub mod TurnLaws
