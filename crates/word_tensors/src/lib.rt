@@ -1,0 +1,4 @@
+//! Tensors from their words.
+#![tactic(auto)]
+
+pub mod laws;
