@@ -29,7 +29,7 @@ use Rattle.rules_guard.specs.Rules.{rule_of}
 use Rattle.rules_guard.specs.Table.{is_part}
 use Rattle.rules_guard.specs.declared.rules.GuardRule.{GuardRule}
 use Rattle.rules_guard.specs.declared.rules.GuardRule.TheVariants.{GuardIntro, GuardElim, GuardMerge, GuardPart, GuardGen, GenGuard, GuardSum, GuardAdd}
-use Rattle.rules_guard.specs.declared.rules.GuardRule.TheVariants.{GuardMul, GuardIndex, GuardCases, AccessGuard}
+use Rattle.rules_guard.specs.declared.rules.GuardRule.TheVariants.{GuardMul, GuardIndex, GuardCases, AccessGuard, SumNarrow, DivZero}
 use Rattle.rules_guard.proofs.AccessLaws.{access_guard_keeps}
 use Rattle.rules_guard.proofs.CaseLaws.{guard_cases_keeps}
 use Rattle.rules_guard.proofs.InwardLaws.{guard_gen_keeps, guard_index_keeps, guard_sum_keeps}
@@ -37,12 +37,9 @@ use Rattle.rules_guard.proofs.NestedLaws.{guard_merge_keeps, guard_part_keeps}
 use Rattle.rules_guard.proofs.OutwardLaws.{gen_guard_keeps}
 use Rattle.rules_guard.proofs.ShownLaws.{guard_elim_keeps, guard_intro_keeps}
 use Rattle.rules_guard.proofs.WordLaws.{guard_add_keeps, guard_mul_keeps}
-
--- the facts of its conditions may be listed
-abbrev MeantListed : Meant → Type 0
-MeantListed Unlike = Unit {0}
-MeantListed Unfit = Unit {0}
-MeantListed (Makes raw cs) = AllListed cs
+use Rattle.rules_narrow.proofs.ListedLaws.{MeantListed, narrow_listed}
+use Rattle.rules_narrow.proofs.NarrowLaws.{sum_narrow_keeps}
+use Rattle.rules_narrow.proofs.QuotientLaws.{div_zero_keeps, zero_listed}
 
 at_index : (t : Term) (f : Term → Items → Meant) → ((e : Term) (x : Items) → MeantListed (f e x)) → MeantListed (on_index t f)
 at_index (index e x) f h = h e x
@@ -114,6 +111,8 @@ listed f p GuardMul as' = at_guard f.term _ (λ c e. at_mul e _ (λ a b. with_no
 listed f p GuardCases as' = given_form (bound_of as') _ (λ g. if_fitting (items_scoped (length f.facts.sizes) (binders f.facts.path) g) _ no_conditions)
 listed f p AccessGuard as' = at_index f.term _ (λ e x. at_form (first_extent (shape_of e (given f.shapes))) _ (λ n. with_none as' _ no_conditions))
 listed f p GuardIndex as' = at_index f.term _ (λ e x. at_guard e _ (λ c b. with_none as' _ no_conditions))
+listed f p SumNarrow as' = narrow_listed f p as'
+listed f p DivZero as' = zero_listed f p as'
 
 made_listed : (m : Meant) (o : Outcome) → MeantListed m → IsOutcome m o → MadeListed o
 made_listed m NoPattern l h = tt
@@ -138,6 +137,8 @@ kept f GuardMul as' p o = guard_mul_keeps f p o as'
 kept f GuardIndex as' p o = guard_index_keeps f p o as'
 kept f GuardCases as' p o = guard_cases_keeps f p o as'
 kept f AccessGuard as' p o = access_guard_keeps f p o as'
+kept f SumNarrow as' p o = sum_narrow_keeps f p o as'
+kept f DivZero as' p o = div_zero_keeps f p o as'
 
 pub rule_keeps : (f : Focus) (rule : GuardRule) (as' : List Arg) → IsProper f → every_form is_normal f.term ≡ true → MeantKeeps f (rule_of f rule as')
 rule_keeps f rule as' p o = kept f rule as' p (every_form-weaker is_normal is_ordered normal-ordered f.term o)

@@ -9,7 +9,9 @@ use Rattle.path_focus.specs.declared.rule.RuleFault.TheVariants.{Memory}
 use Rattle.rules_guard.specs.Table as table
 use Rattle.rules_guard.specs.declared.rules.GuardRule.{GuardRule}
 use Rattle.rules_guard.specs.declared.rules.GuardRule.TheVariants.{GuardIntro, GuardElim, GuardMerge, GuardPart, GuardGen, GenGuard, GuardSum, GuardAdd}
-use Rattle.rules_guard.specs.declared.rules.GuardRule.TheVariants.{GuardMul, GuardIndex, GuardCases, AccessGuard}
+use Rattle.rules_guard.specs.declared.rules.GuardRule.TheVariants.{GuardMul, GuardIndex, GuardCases, AccessGuard, SumNarrow, DivZero}
+use Rattle.rules_narrow.specs.Narrow.{sum_narrow}
+use Rattle.rules_narrow.specs.Quotients.{div_zero}
 
 -- what a rule makes of a focus and arguments
 abbrev pub rule_of : Focus → GuardRule → List Arg → Meant
@@ -25,6 +27,8 @@ rule_of f GuardMul = table.guard_mul f
 rule_of f GuardIndex = table.guard_index f
 rule_of f GuardCases = table.guard_cases f
 rule_of f AccessGuard = table.access_guard f
+rule_of f SumNarrow = sum_narrow f
+rule_of f DivZero = div_zero f
 
 -- the conditions, unless memory runs out
 abbrev pub IsConditions : Result (List Condition) RuleFault → Result (List Condition) RuleFault → Type 0

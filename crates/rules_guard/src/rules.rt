@@ -15,11 +15,12 @@ use crate::words::{guard_add, guard_mul};
 use fact_list::CertRefusal;
 use linear_cert::Lines;
 use path_focus::{Arg, Condition, Focus, Outcome, RuleFault, finish};
+use rules_narrow::{div_zero, sum_narrow};
 use sqlite_items::{Boxed, Items};
 use std::alloc::Global;
 use term_tree::{Term, told};
 
-/// The rules of guards that are built.
+/// The rules of guards.
 #[derive(Clone, Copy, Debug, PartialEq, Eq)]
 pub enum GuardRule {
     GuardIntro,
@@ -34,6 +35,8 @@ pub enum GuardRule {
     GuardIndex,
     GuardCases,
     AccessGuard,
+    SumNarrow,
+    DivZero,
 }
 
 fn outcome(
@@ -58,6 +61,8 @@ fn outcome(
         GuardRule::GuardIndex => guard_index(alloc, focus, args),
         GuardRule::GuardCases => guard_cases(alloc, focus, args),
         GuardRule::AccessGuard => access_guard(alloc, focus, args),
+        GuardRule::SumNarrow => sum_narrow(alloc, focus, args),
+        GuardRule::DivZero => div_zero(alloc, focus, args),
     }
 }
 
