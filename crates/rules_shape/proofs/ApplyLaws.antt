@@ -1,19 +1,17 @@
 -- What the call of a rule takes of what the rule makes.
-use Rattle.std.proofs.Common.{◌≡◌, ◌==◌, ℕ, zero, suc, List, [], ◌∷◌, sym, subst, arith, Bool, true, false}
+use Rattle.std.proofs.Common.{◌≡◌, ◌==◌, ℕ, List, sym, subst, true}
 use Rattle.std.specs.Prelude.{Option, Some, None}
 use Rattle.affine_index.specs.Normal.{is_normal, is_ordered}
-use Rattle.affine_index.specs.declared.form.Items.{Items}
 use Rattle.affine_index.proofs.ArithmeticLaws.{normal-ordered}
 use Rattle.term_tree.specs.Limits.{every_form}
 use Rattle.shape_rules.specs.Scopes.{given}
 use Rattle.term_tree.specs.Shape.{shape_of}
-use Rattle.term_tree.specs.Syntax.{add, concat, index, mul, pad_l, pad_r, sub, trunc_l, trunc_r}
+use Rattle.term_tree.specs.Syntax.{add, mul, sub}
 use Rattle.term_tree.specs.declared.term.Term.{Term, Lit}
 use Rattle.term_tree.proofs.FormLaws.{every_form-weaker}
 use Rattle.term_equality.specs.Equality.{same_term}
 use Rattle.path_focus.specs.Focus.{IsProper}
-use Rattle.path_focus.specs.Making.{owed}
-use Rattle.path_focus.specs.Outcome.{AllListed, IsOutcome, MadeListed, Makes, Meant, MeantKeeps, Unfit, Unlike, without_arguments}
+use Rattle.path_focus.specs.Outcome.{AllListed, IsOutcome, MadeListed, Makes, Meant, MeantKeeps, Unfit, Unlike}
 use Rattle.path_focus.specs.declared.place.Focus.{Focus}
 use Rattle.path_focus.specs.declared.outcome.Outcome.{Outcome}
 use Rattle.path_focus.specs.declared.outcome.Outcome.TheVariants.{NoPattern, WrongArgument, Made}
@@ -21,46 +19,33 @@ use Rattle.path_focus.specs.declared.rule.Arg.{Arg}
 use Rattle.path_focus.specs.declared.rule.Law.{Law}
 use Rattle.path_focus.specs.declared.rule.Law.TheVariants.{AddComm, AddAssoc, AddAssocBack, MulComm, MulAssoc, MulAssocBack, Distrib, Undistrib}
 use Rattle.path_focus.specs.declared.rule.Law.TheVariants.{AddZero, MulOne, MulZero, SubAdd, Fold}
-use Rattle.path_focus.proofs.FocusMeaning.{facts_listed}
-use Rattle.rule_parts.specs.Patterns.{first_extent, on_form, on_index, provided}
-use Rattle.rules_shape.specs.Patterns.{fits_add, fits_lit, fits_mul, fits_sub, fitting, on_concat, on_pad_l, on_pad_r, on_trunc_l, on_trunc_r}
+use Rattle.rule_parts.specs.Patterns.{first_extent}
+use Rattle.rules_shape.specs.Patterns.{fits_add, fits_lit, fits_mul, fits_sub}
 use Rattle.rules_shape.specs.Ring.{folded, is_operator, is_word, law_given, law_of, with_law}
 use Rattle.rules_shape.specs.Rules.{rule_of}
 use Rattle.rules_shape.specs.declared.rules.ShapeRule.{ShapeRule}
+use Rattle.rules_shape.specs.declared.rules.ShapeRule.TheVariants.{ConcatAssoc, FlattenIndex, FlattenSplit, PadTruncL, PadTruncR, SplitFlatten, SplitIndex}
+use Rattle.rules_shape.specs.declared.rules.ShapeRule.TheVariants.{TransposeIndex, TransposeTwice}
+use Rattle.rules_shape.specs.declared.rules.ShapeRule.TheVariants.{ConcatGen, FlattenOfGen, PadGenL, PadGenR, SplitOfGen, TruncGenL, TruncGenR}
 use Rattle.rules_shape.specs.declared.rules.ShapeRule.TheVariants.{Ring, PadlIndex, PadrIndex, TrunclIndex, TruncrIndex, ConcatIndexLeft, ConcatIndexRight}
 use Rattle.rules_shape.proofs.RingLaws.{ring_keeps}
 use Rattle.rules_shape.proofs.RowLaws.{concat_index_left_keeps, concat_index_right_keeps, padl_index_keeps, padr_index_keeps, truncl_index_keeps}
 use Rattle.rules_shape.proofs.RowLaws.{truncr_index_keeps}
-
--- the facts of its conditions may be listed
-abbrev MeantListed : Meant → Type 0
-MeantListed Unlike = Unit {0}
-MeantListed Unfit = Unit {0}
-MeantListed (Makes raw cs) = AllListed cs
-
-at_index : (t : Term) (f : Term → Items → Meant) → ((e : Term) (x : Items) → MeantListed (f e x)) → MeantListed (on_index t f)
-at_index (index e x) f h = h e x
-at_index _ f h = tt
-
-at_concat : (t : Term) (f : Term → Term → Meant) → ((a b : Term) → MeantListed (f a b)) → MeantListed (on_concat t f)
-at_concat (concat a b) f h = h a b
-at_concat _ f h = tt
-
-at_pad_l : (t : Term) (f : Items → Term → Meant) → ((a : Items) (e : Term) → MeantListed (f a e)) → MeantListed (on_pad_l t f)
-at_pad_l (pad_l a e) f h = h a e
-at_pad_l _ f h = tt
-
-at_pad_r : (t : Term) (f : Items → Term → Meant) → ((a : Items) (e : Term) → MeantListed (f a e)) → MeantListed (on_pad_r t f)
-at_pad_r (pad_r a e) f h = h a e
-at_pad_r _ f h = tt
-
-at_trunc_l : (t : Term) (f : Items → Term → Meant) → ((a : Items) (e : Term) → MeantListed (f a e)) → MeantListed (on_trunc_l t f)
-at_trunc_l (trunc_l a e) f h = h a e
-at_trunc_l _ f h = tt
-
-at_trunc_r : (t : Term) (f : Items → Term → Meant) → ((a : Items) (e : Term) → MeantListed (f a e)) → MeantListed (on_trunc_r t f)
-at_trunc_r (trunc_r a e) f h = h a e
-at_trunc_r _ f h = tt
+use Rattle.rules_shape_gen.proofs.ConcatLaws.{concat_gen_keeps}
+use Rattle.rules_shape_gen.proofs.PadLaws.{pad_gen_l_keeps, pad_gen_r_keeps}
+use Rattle.rules_shape_gen.proofs.TileLaws.{flatten_of_gen_keeps, split_of_gen_keeps}
+use Rattle.rules_shape_gen.proofs.TruncLaws.{trunc_gen_l_keeps, trunc_gen_r_keeps}
+use Rattle.rules_shape_gen.proofs.Unconditional.{concat_gen_each, flatten_of_gen_each, pad_gen_l_each, pad_gen_r_each, split_of_gen_each, trunc_gen_l_each}
+use Rattle.rules_shape_gen.proofs.Unconditional.{trunc_gen_r_each}
+use Rattle.rules_shape_tensor.specs.Tensors.{all_ordered}
+use Rattle.rules_shape_tensor.proofs.ColumnLaws.{split_index_keeps, transpose_index_keeps}
+use Rattle.rules_shape_tensor.proofs.ListedLaws.{MeantListed, at_concat, at_form, at_index, at_pad_l, at_pad_r, at_trunc_l, at_trunc_r, concat_assoc_listed}
+use Rattle.rules_shape_tensor.proofs.ListedLaws.{flatten_index_listed, flatten_split_listed, if_fitting, if_provided, no_conditions, one_condition}
+use Rattle.rules_shape_tensor.proofs.ListedLaws.{pad_trunc_l_listed, pad_trunc_r_listed, split_flatten_listed, split_index_listed, transpose_index_listed}
+use Rattle.rules_shape_tensor.proofs.ListedLaws.{transpose_twice_listed, with_none}
+use Rattle.rules_shape_tensor.proofs.PlaceLaws.{flatten_index_keeps}
+use Rattle.rules_shape_tensor.proofs.SplitLaws.{flatten_split_keeps, split_flatten_keeps}
+use Rattle.rules_shape_tensor.proofs.TensorLaws.{concat_assoc_keeps, pad_trunc_l_keeps, pad_trunc_r_keeps, transpose_twice_keeps}
 
 at_add : (t : Term) (f : Term → Term → Meant) → ((a b : Term) → MeantListed (f a b)) → MeantListed (fits_add t f)
 at_add (add a b) f h = h a b
@@ -77,29 +62,6 @@ at_mul _ f h = tt
 at_lit : (t : Term) (f : ℕ → Meant) → ((w : ℕ) → MeantListed (f w)) → MeantListed (fits_lit t f)
 at_lit (Lit w) f h = h w
 at_lit _ f h = tt
-
-at_form : (o : Option Items) (f : Items → Meant) → ((n : Items) → MeantListed (f n)) → MeantListed (on_form o f)
-at_form (Some n) f h = h n
-at_form None f h = tt
-
-if_provided : (b : Bool) (m : Meant) → MeantListed m → MeantListed (provided b m)
-if_provided true m h = h
-if_provided false m h = tt
-
-if_fitting : (b : Bool) (m : Meant) → MeantListed m → MeantListed (fitting b m)
-if_fitting true m h = h
-if_fitting false m h = tt
-
-with_none : (as' : List Arg) (m : Meant) → MeantListed m → MeantListed (without_arguments as' m)
-with_none [] m h = h
-with_none (a ∷ as') m h = tt
-
-no_conditions : AllListed []
-no_conditions k d h = absurd (omega (arith, h))
-
-one_condition : (f : Focus) → IsProper f → (x : Items) → AllListed (owed f.facts x ∷ [])
-one_condition f p x zero d h = facts_listed f p
-one_condition f p x (suc k) d h = absurd (omega (arith, h))
 
 folded_listed : (e : Term) → MeantListed (folded e)
 folded_listed (add a b) = at_lit a _ (λ v. at_lit b _ (λ w. no_conditions))
@@ -137,6 +99,22 @@ listed f p ConcatIndexLeft as' =
     at_index f.term _ (λ d x. at_concat d _ (λ a b. at_form (first_extent (shape_of a (given f.shapes))) _ (λ n. with_none as' _ (one_condition f p _))))
 listed f p ConcatIndexRight as' =
     at_index f.term _ (λ d x. at_concat d _ (λ a b. at_form (first_extent (shape_of a (given f.shapes))) _ (λ n. with_none as' _ (one_condition f p _))))
+listed f p TransposeIndex as' = transpose_index_listed f as'
+listed f p FlattenIndex as' = flatten_index_listed f p as'
+listed f p SplitIndex as' = split_index_listed f as'
+listed f p TransposeTwice as' = transpose_twice_listed f as'
+listed f p SplitFlatten as' = split_flatten_listed f as'
+listed f p FlattenSplit as' = flatten_split_listed f as'
+listed f p PadTruncL as' = pad_trunc_l_listed f as'
+listed f p PadTruncR as' = pad_trunc_r_listed f as'
+listed f p ConcatAssoc as' = concat_assoc_listed f as'
+listed f p TruncGenL as' = trunc_gen_l_each MeantListed tt tt (λ raw. no_conditions) f as'
+listed f p TruncGenR as' = trunc_gen_r_each MeantListed tt tt (λ raw. no_conditions) f as'
+listed f p PadGenL as' = pad_gen_l_each MeantListed tt tt (λ raw. no_conditions) f as'
+listed f p PadGenR as' = pad_gen_r_each MeantListed tt tt (λ raw. no_conditions) f as'
+listed f p ConcatGen as' = concat_gen_each MeantListed tt tt (λ raw. no_conditions) f as'
+listed f p SplitOfGen as' = split_of_gen_each MeantListed tt tt (λ raw. no_conditions) f as'
+listed f p FlattenOfGen as' = flatten_of_gen_each MeantListed tt tt (λ raw. no_conditions) f as'
 
 made_listed : (m : Meant) (o : Outcome) → MeantListed m → IsOutcome m o → MadeListed o
 made_listed m NoPattern l h = tt
@@ -148,14 +126,32 @@ made_listed (Makes raw cs) (Made w) l h = subst AllListed (sym h.0) l
 pub rule_listed : (f : Focus) (rule : ShapeRule) (as' : List Arg) (o : Outcome) → IsProper f → IsOutcome (rule_of f rule as') o → MadeListed o
 rule_listed f rule as' o p h = made_listed (rule_of f rule as') o (listed f p rule as') h
 
-kept : (f : Focus) (rule : ShapeRule) (as' : List Arg) → IsProper f → every_form is_ordered f.term ≡ true → MeantKeeps f (rule_of f rule as')
-kept f Ring as' p o = ring_keeps f p o as'
-kept f PadrIndex as' p o = padr_index_keeps f p o as'
-kept f PadlIndex as' p o = padl_index_keeps f p o as'
-kept f TrunclIndex as' p o = truncl_index_keeps f p o as'
-kept f TruncrIndex as' p o = truncr_index_keeps f p o as'
-kept f ConcatIndexLeft as' p o = concat_index_left_keeps f p o as'
-kept f ConcatIndexRight as' p o = concat_index_right_keeps f p o as'
+kept : (f : Focus) (rule : ShapeRule) (as' : List Arg) → IsProper f → every_form is_ordered f.term ≡ true → all_ordered (given f.shapes) ≡ true
+    → MeantKeeps f (rule_of f rule as')
+kept f Ring as' p o g = ring_keeps f p o as'
+kept f PadrIndex as' p o g = padr_index_keeps f p o as'
+kept f PadlIndex as' p o g = padl_index_keeps f p o as'
+kept f TrunclIndex as' p o g = truncl_index_keeps f p o as'
+kept f TruncrIndex as' p o g = truncr_index_keeps f p o as'
+kept f ConcatIndexLeft as' p o g = concat_index_left_keeps f p o as'
+kept f ConcatIndexRight as' p o g = concat_index_right_keeps f p o as'
+kept f TransposeIndex as' p o g = transpose_index_keeps f p o as'
+kept f FlattenIndex as' p o g = flatten_index_keeps f p o as'
+kept f SplitIndex as' p o g = split_index_keeps f p o as'
+kept f TransposeTwice as' p o g = transpose_twice_keeps f p o as'
+kept f SplitFlatten as' p o g = split_flatten_keeps f p o g as'
+kept f FlattenSplit as' p o g = flatten_split_keeps f p o g as'
+kept f PadTruncL as' p o g = pad_trunc_l_keeps f p o g as'
+kept f PadTruncR as' p o g = pad_trunc_r_keeps f p o g as'
+kept f ConcatAssoc as' p o g = concat_assoc_keeps f p o g as'
+kept f TruncGenL as' p o g = trunc_gen_l_keeps f p o as'
+kept f TruncGenR as' p o g = trunc_gen_r_keeps f p o as'
+kept f PadGenL as' p o g = pad_gen_l_keeps f p o as'
+kept f PadGenR as' p o g = pad_gen_r_keeps f p o as'
+kept f ConcatGen as' p o g = concat_gen_keeps f p o as'
+kept f SplitOfGen as' p o g = split_of_gen_keeps f p o as'
+kept f FlattenOfGen as' p o g = flatten_of_gen_keeps f p o as'
 
-pub rule_keeps : (f : Focus) (rule : ShapeRule) (as' : List Arg) → IsProper f → every_form is_normal f.term ≡ true → MeantKeeps f (rule_of f rule as')
-rule_keeps f rule as' p o = kept f rule as' p (every_form-weaker is_normal is_ordered normal-ordered f.term o)
+pub rule_keeps : (f : Focus) (rule : ShapeRule) (as' : List Arg) → IsProper f → every_form is_normal f.term ≡ true → all_ordered (given f.shapes) ≡ true
+    → MeantKeeps f (rule_of f rule as')
+rule_keeps f rule as' p o g = kept f rule as' p (every_form-weaker is_normal is_ordered normal-ordered f.term o) g

@@ -1,11 +1,8 @@
 pub mod ApplyLaws
-pub mod ExtentLaws
 pub mod FoldingLaws
-pub mod FormedLaws
 pub mod KeptLaws
 pub mod Lists
 pub mod Parts
-pub mod ReachLaws
 pub mod RingLaws
 pub mod RowLaws
 pub mod ShapeLaws

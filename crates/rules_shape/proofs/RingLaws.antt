@@ -14,7 +14,8 @@ use Rattle.path_focus.specs.declared.rule.Law.TheVariants.{AddZero, MulOne, MulZ
 use Rattle.path_focus.proofs.ShapeSteps.{old_is, same_there}
 use Rattle.rule_parts.proofs.Replacing.{Replaces, Stands, anywhere, never, replaced_anywhere}
 use Rattle.rules_shape.specs.Ring.{folded, is_operator, is_word, law_given, law_of, ring, with_law}
-use Rattle.rules_shape.proofs.KeptLaws.{IsSame, kept_add, kept_fitting, kept_lit, kept_mul, kept_provided, kept_sub, same_kept}
+use Rattle.rules_shape.proofs.KeptLaws.{kept_add, kept_lit, kept_mul, kept_sub}
+use Rattle.rules_shape_tensor.proofs.KeptLaws.{IsSame, kept_fitting, kept_provided, same_kept}
 use Rattle.rules_shape.proofs.ShapeLaws.{product_or, product_parts, sum_or, sum_parts}
 use Rattle.shape_rules.specs.Fits.{AllShaped, AllWords, LiteralsFit, ShapesFit}
 use Rattle.shape_rules.specs.Scopes.{given}

@@ -21,11 +21,11 @@ use Rattle.path_focus.proofs.ShapeSteps.{old_is, same_there}
 use Rattle.path_focus.proofs.SteadyLaws.{steady_of}
 use Rattle.rule_parts.proofs.Replacing.{Replaces, Stands, anywhere, never, replaced, replaced_anywhere}
 use Rattle.rules_shape.specs.Indices.{concat_index_left, concat_index_right, padl_index, padr_index, truncl_index, truncr_index}
-use Rattle.rules_shape.proofs.ExtentLaws.{IsExtent, first_is, kept_first, one_goal}
-use Rattle.rules_shape.proofs.KeptLaws.{IsSame, kept_concat, kept_index, kept_pad_l, kept_pad_r, kept_trunc_l, kept_trunc_r, kept_without, same_kept}
+use Rattle.rules_shape_tensor.proofs.ExtentLaws.{IsExtent, first_is, kept_first, one_goal}
+use Rattle.rules_shape_tensor.proofs.KeptLaws.{IsSame, kept_concat, kept_index, kept_pad_l, kept_pad_r, kept_trunc_l, kept_trunc_r, kept_without, same_kept}
 use Rattle.rules_shape.proofs.Lists.{row_of, rows_behind, rows_count, rows_dropped, rows_first, rows_further, rows_left, rows_second}
 use Rattle.rules_shape.proofs.Wider.{wider}
-use Rattle.rules_shape.proofs.ShapeLaws.{IsShape, is_there}
+use Rattle.rules_shape_tensor.proofs.ShapeLaws.{IsShape, is_there}
 use Rattle.shape_rules.specs.Fits.{AllShaped}
 use Rattle.shape_rules.specs.Scopes.{given}
 use Rattle.shape_rules.specs.Values.{NoneNegative}

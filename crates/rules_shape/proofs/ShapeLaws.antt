@@ -4,18 +4,7 @@ use Rattle.path_focus.specs.Focus.{SameOrLimit}
 use Rattle.path_focus.proofs.ShapeSteps.{equal_extents, equal_or, next}
 use Rattle.term_tree.specs.Shape.{Extents, Shaped, of_equal, of_words, with_child}
 use Rattle.rule_parts.proofs.Replacing.{never}
-
--- a shape of these extents
-abbrev pub IsShape : Shaped → Extents → Type 0
-IsShape z ns = z ≡ Ok ns
-
--- a shape that is there
-pub is_there : (z : Shaped) → IsOk z → (ns : Extents) × (z ≡ Ok ns)
-is_there (Ok ns) h = (ns, refl)
-is_there (Err m) h = absurd (never h)
-
-pub there : (z : Shaped) (ns : Extents) → z ≡ Ok ns → IsOk z
-there z ns h = subst IsOk (sym h) refl
+use Rattle.rules_shape_tensor.proofs.ShapeLaws.{IsShape, there}
 
 -- extents that may be added are those of the sum
 equal_is : (ns ms : Extents) → IsOk (of_equal ns ms) → of_equal ns ms ≡ Ok ns

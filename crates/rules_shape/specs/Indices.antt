@@ -6,7 +6,7 @@ use Rattle.path_focus.specs.Outcome.{Makes, Meant, without_arguments}
 use Rattle.path_focus.specs.declared.place.Focus.{Focus}
 use Rattle.path_focus.specs.declared.rule.Arg.{Arg}
 use Rattle.rule_parts.specs.Patterns.{first_extent, on_form, on_index}
-use Rattle.rules_shape.specs.Patterns.{on_concat, on_pad_l, on_pad_r, on_trunc_l, on_trunc_r}
+use Rattle.rules_shape_tensor.specs.Patterns.{on_concat, on_pad_l, on_pad_r, on_trunc_l, on_trunc_r}
 use Rattle.shape_rules.specs.Scopes.{given}
 use Rattle.term_tree.specs.Shape.{shape_of}
 use Rattle.term_tree.specs.Syntax.{index}

@@ -1,4 +1,3 @@
-pub mod Formed
 pub mod Patterns
 pub mod Ring
 pub mod Indices

@@ -8,7 +8,8 @@ use Rattle.path_focus.specs.declared.rule.Law.{Law}
 use Rattle.path_focus.specs.declared.rule.Law.TheVariants.{AddComm, AddAssoc, AddAssocBack, MulComm, MulAssoc, MulAssocBack, Distrib, Undistrib}
 use Rattle.path_focus.specs.declared.rule.Law.TheVariants.{AddZero, MulOne, MulZero, SubAdd, Fold}
 use Rattle.rule_parts.specs.Patterns.{provided}
-use Rattle.rules_shape.specs.Patterns.{fits_add, fits_lit, fits_mul, fits_sub, fitting}
+use Rattle.rules_shape.specs.Patterns.{fits_add, fits_lit, fits_mul, fits_sub}
+use Rattle.rules_shape_tensor.specs.Patterns.{fitting}
 use Rattle.shape_rules.specs.Scopes.{given}
 use Rattle.term_equality.specs.Equality.{same_term}
 use Rattle.term_tree.specs.Shape.{Shaped, shape_of}

@@ -1,9 +1,7 @@
 //! Rules of tensors whose rows are moved, cut, joined or added, and laws of arithmetic on words.
 #![tactic(auto)]
 
-mod extents;
 mod folding;
-mod formed;
 pub mod laws;
 mod patterns;
 mod ring;

@@ -1,37 +1,26 @@
 //! Rows of tensors of which rows are cut, and of tensors with rows of others.
 
 ghost use Rattle.std.specs.Prelude.{◌≡◌, ◌∷◌, [], IfOk, MatchResult};
-ghost use Rattle.affine_index.specs.Normal.{Refused};
-ghost use Rattle.affine_index.specs.declared.form.Items as form;
 ghost use Rattle.affine_index.specs.Sum.{difference_of, sum_of};
-ghost use Rattle.fact_list.specs.Facts.{where_normal};
 ghost use Rattle.path_focus.specs.Focus.{IsProper};
 ghost use Rattle.path_focus.specs.Making.{owed, rest_below};
 ghost use Rattle.path_focus.specs.Outcome.{IsDraft, IsOutcome};
 ghost use Rattle.rules_shape.specs.Indices as table;
 ghost use Rattle.term_tree.specs.Syntax as tree;
 
-use crate::extents::first_extent;
-use crate::formed::{formed, index_with, whole};
-use crate::patterns::{as_concat, as_pad_l, as_pad_r, as_trunc_l, as_trunc_r};
-use affine_index::{Aff, AffRefusal};
+use affine_index::Aff;
 use fact_list::{CertRefusal, Facts};
 use path_focus::making::{below, condition, not_negative};
 use path_focus::{Arg, Condition, Draft, Focus, Outcome, Rewrite};
-use rule_parts::build::{copied, copied_form, drafted, index, made, made_under};
+use rule_parts::build::{copied, drafted, made, made_under};
 use rule_parts::patterns::as_index;
-use sqlite_items::{Boxed, Items};
+use rules_shape_tensor::build::{if_normal, row};
+use rules_shape_tensor::extents::first_extent;
+use rules_shape_tensor::formed::{formed, index_with, whole};
+use rules_shape_tensor::patterns::{as_concat, as_pad_l, as_pad_r, as_trunc_l, as_trunc_r};
+use sqlite_items::Items;
 use std::alloc::Global;
 use term_tree::Term;
-
-/// A copy of a term at a copy of an index.
-fn row(alloc: Global, array: &Term, x: &Aff) -> Result<Boxed<Term>, CertRefusal>
-    ensures { IfOk result (λ e. e ≡ tree.index array.now x.now) }
-{
-    let array = copied(alloc, array)?;
-    let x = copied_form(alloc, x)?;
-    index(alloc, array, x)
-}
 
 /// A copy of a term at x + a.
 fn row_after(alloc: Global, array: &Term, x: &Aff, a: &Aff) -> Result<Draft, CertRefusal>
@@ -57,22 +46,6 @@ fn alone(alloc: Global, condition: Condition) -> Result<Items<Condition>, CertRe
     let mut all = Items::new(alloc);
     all.push(condition)?;
     Ok(all)
-}
-
-/// What index arithmetic has made, where it is within the limits.
-fn if_normal(made: Result<Aff, AffRefusal>) -> Result<Option<Aff>, CertRefusal>
-    ensures { (raw : form.Items) → MatchResult made (λ x. x ≡ raw) (Refused raw) → IfOk result (λ o. o ≡ where_normal raw) }
-{
-    match made {
-        Ok(form) => {
-            form.told();
-            Ok(Some(form))
-        }
-        Err(AffRefusal::Memory) => Err(CertRefusal::Memory),
-        Err(AffRefusal::CoefficientTooLarge) => Ok(None),
-        Err(AffRefusal::IndexTooLong) => Ok(None),
-        Err(AffRefusal::NotAffine) => Ok(None),
-    }
 }
 
 /// That an index is at least another.

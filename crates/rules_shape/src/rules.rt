@@ -12,11 +12,18 @@ use crate::rows::{
 use fact_list::CertRefusal;
 use linear_cert::Lines;
 use path_focus::{Arg, Condition, Focus, Outcome, RuleFault, finish};
+use rules_shape_gen::{
+    concat_gen, flatten_of_gen, pad_gen_l, pad_gen_r, split_of_gen, trunc_gen_l, trunc_gen_r,
+};
+use rules_shape_tensor::{
+    concat_assoc, flatten_index, flatten_split, pad_trunc_l, pad_trunc_r, shapes_told,
+    split_flatten, split_index, transpose_index, transpose_twice,
+};
 use sqlite_items::{Boxed, Items};
 use std::alloc::Global;
 use term_tree::{Term, told};
 
-/// The rules of shapes that are built.
+/// The rules of shapes, and laws of words.
 #[derive(Clone, Copy, Debug, PartialEq, Eq)]
 pub enum ShapeRule {
     Ring,
@@ -26,6 +33,22 @@ pub enum ShapeRule {
     TruncrIndex,
     ConcatIndexLeft,
     ConcatIndexRight,
+    TransposeIndex,
+    FlattenIndex,
+    SplitIndex,
+    TransposeTwice,
+    SplitFlatten,
+    FlattenSplit,
+    PadTruncL,
+    PadTruncR,
+    ConcatAssoc,
+    TruncGenL,
+    TruncGenR,
+    PadGenL,
+    PadGenR,
+    ConcatGen,
+    SplitOfGen,
+    FlattenOfGen,
 }
 
 fn outcome(
@@ -45,6 +68,22 @@ fn outcome(
         ShapeRule::TruncrIndex => truncr_index(alloc, focus, args),
         ShapeRule::ConcatIndexLeft => concat_index_left(alloc, focus, args),
         ShapeRule::ConcatIndexRight => concat_index_right(alloc, focus, args),
+        ShapeRule::TransposeIndex => transpose_index(alloc, focus, args),
+        ShapeRule::FlattenIndex => flatten_index(alloc, focus, args),
+        ShapeRule::SplitIndex => split_index(alloc, focus, args),
+        ShapeRule::TransposeTwice => transpose_twice(alloc, focus, args),
+        ShapeRule::SplitFlatten => split_flatten(alloc, focus, args),
+        ShapeRule::FlattenSplit => flatten_split(alloc, focus, args),
+        ShapeRule::PadTruncL => pad_trunc_l(alloc, focus, args),
+        ShapeRule::PadTruncR => pad_trunc_r(alloc, focus, args),
+        ShapeRule::ConcatAssoc => concat_assoc(alloc, focus, args),
+        ShapeRule::TruncGenL => trunc_gen_l(alloc, focus, args),
+        ShapeRule::TruncGenR => trunc_gen_r(alloc, focus, args),
+        ShapeRule::PadGenL => pad_gen_l(alloc, focus, args),
+        ShapeRule::PadGenR => pad_gen_r(alloc, focus, args),
+        ShapeRule::ConcatGen => concat_gen(alloc, focus, args),
+        ShapeRule::SplitOfGen => split_of_gen(alloc, focus, args),
+        ShapeRule::FlattenOfGen => flatten_of_gen(alloc, focus, args),
     }
 }
 
@@ -61,6 +100,7 @@ pub fn apply(
     ensures keeps { IfOk result (λ e. KeepsMeaning focus.now e × KeepsShape focus.now e) }
 {
     told(focus.term.get());
+    shapes_told(&focus.shapes);
     match outcome(alloc, focus, rule, args) {
         Ok(outcome) => finish(alloc, outcome, lines),
         Err(_) => Err(RuleFault::Memory),

@@ -1,5 +1,5 @@
 use Rattle.std.proofs.Common.{sym}
-use Rattle.rules_shape.proofs.ReachLaws.{whole_scoped}
+use Rattle.rules_shape_tensor.proofs.ReachLaws.{whole_scoped}
 use Rattle.rules_shape.proofs.ring.is_word.Goals as goal
 
 pub shape-requires-clause-scoped : goal.shape-requires-clause-scoped

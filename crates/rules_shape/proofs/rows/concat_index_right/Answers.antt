@@ -1,6 +1,6 @@
 use Rattle.std.proofs.Common.{sym, ◌∙◌}
 use Rattle.term_tree.specs.Syntax.{index}
-use Rattle.rules_shape.proofs.ReachLaws.{first_scoped}
+use Rattle.rules_shape_tensor.proofs.ReachLaws.{first_scoped}
 use Rattle.rules_shape.proofs.rows.concat_index_right.Goals as goal
 
 pub first_extent-requires-clause-scoped : goal.first_extent-requires-clause-scoped

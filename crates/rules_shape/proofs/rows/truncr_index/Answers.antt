@@ -1,5 +1,5 @@
 use Rattle.std.proofs.Common.{sym, ◌∙◌}
-use Rattle.rules_shape.proofs.ReachLaws.{array_scoped}
+use Rattle.rules_shape_tensor.proofs.ReachLaws.{array_scoped}
 use Rattle.rules_shape.proofs.rows.truncr_index.Goals as goal
 
 pub first_extent-requires-clause-scoped : goal.first_extent-requires-clause-scoped

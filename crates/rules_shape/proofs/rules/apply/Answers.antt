@@ -16,4 +16,4 @@ returns-in-Ok-clause-keeps c =
     let o : IsOutcome (rule_of c.args.focus.now c.args.rule c.args.args.now) c.in-Ok.outcome = search rules in
     let t : every_form is_normal c.args.focus.now.term ≡ true = search rules in
     c.finish.ensures.keeps (rule_of c.args.focus.now c.args.rule c.args.args.now) o c.args.focus.now
-    (rule_keeps c.args.focus.now c.args.rule c.args.args.now c.requires t)
+    (rule_keeps c.args.focus.now c.args.rule c.args.args.now c.requires t c.shapes_told.ensures)

@@ -1,0 +1,17 @@
+pub mod ChunkForms
+pub mod ColumnLaws
+pub mod ExtentLaws
+pub mod FormSums
+pub mod FormedLaws
+pub mod KeptLaws
+pub mod ListedLaws
+pub mod Lists
+pub mod Parts
+pub mod PlaceForms
+pub mod PlaceLaws
+pub mod ReachLaws
+pub mod SameForms
+pub mod ShapeLaws
+pub mod ShapeOrders
+pub mod SplitLaws
+pub mod TensorLaws

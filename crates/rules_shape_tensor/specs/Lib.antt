@@ -1,0 +1,4 @@
+pub mod Formed
+pub mod Patterns
+pub mod Tensors
+pub mod Rows
