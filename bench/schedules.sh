@@ -2,12 +2,14 @@
 # How long the steps of a script take in `atl compile`: 500 and 1,000 steps on a module of 20,000 nodes, and one step, as the hundredth part of
 # a hundred, on modules of 5,000, 10,000 and 20,000 nodes. Each step swaps two sums at a place near the root. Times are seconds of processor time, the least of three, from which
 # the time of the same source under a script without steps is taken; the exponent is that of growth from the first to the last, 1 where it is
-# linear. A program that is built already may be named as the argument.
+# linear. A program that is built already may be named as the argument. With `instructions` as the second one, instructions are counted in place of
+# seconds, by valgrind, which are the same whatever else the machine does; that takes some minutes.
 set -eu
 top=$(cd "$(dirname "$(readlink -f "$0")")/.." && pwd)
 work=$(mktemp -d)
 trap 'rm -rf "$work"' EXIT
 program=${1:-$top/crates/atl_cli/out/atl_cli}
+counted=${2:-seconds}
 [ $# -gt 0 ] || "$top/atl" compile "$top/examples/scale.atl" >/dev/null
 ulimit -s unlimited 2>/dev/null || ulimit -s "$(ulimit -H -s)" 2>/dev/null || true
 
@@ -29,8 +31,15 @@ script_of() {
   awk -v steps="$1" 'BEGIN { print "schedule 1;"; for (k = 0; k < steps; k++) print "at 0.0 do swap_sum;" }'
 }
 
+# How many instructions a compilation has, in millions.
+instructions() {
+  valgrind --tool=cachegrind --cache-sim=no --cachegrind-out-file=/dev/null --main-stacksize=900000000 \
+    "$program" compile "$work/source.atl" "$work/script.sched" 2>&1 >"$work/text.c" | awk '/I *refs/ { gsub(",", "", $NF); print $NF / 1000000 }'
+}
+
 # The least processor time, of three, of a compilation.
 least() {
+  if [ "$counted" = instructions ]; then instructions; return; fi
   for _ in 1 2 3; do
     ( TIMEFORMAT='%U %S'; time "$program" compile "$work/source.atl" "$work/script.sched" >"$work/text.c" ) 2>&1 | awk '{ print $1 + $2 }'
   done | sort -g | head -n 1
