@@ -1,0 +1,4 @@
+mod BlockLaws
+mod ListedLaws
+mod RunLaws
+mod StepLaws
