@@ -70,21 +70,21 @@ module _ (f : Focus) (p : IsProper f) (n : Items) (c : Cond) (b : Term) (q : f.t
   abbrev tensors : ℕ
   tensors = length (given f.shapes)
 
-  abbrev row : Term
-  row = guard c b
+  abbrev summand : Term
+  summand = guard c b
 
   abbrev turn : Items
   turn = further (start a)
 
   abbrev moved : Term
-  moved = moved_to turn row
+  moved = moved_to turn summand
 
   abbrev conditions : List Condition
   conditions = range_within f.facts n a m ++ turns_within (inside f.facts n c) (start a) m
 
-  row_ordered : AllOrdered row
+  row_ordered : AllOrdered summand
   row_ordered =
-      (and_parts (is_ordered n) (every_form is_ordered row) (sym (fold-sum Bool (form_step is_ordered) n row) ∙ subst AllOrdered q o)).1
+      (and_parts (is_ordered n) (every_form is_ordered summand) (sym (fold-sum Bool (form_step is_ordered) n summand) ∙ subst AllOrdered q o)).1
 
   count_true : AllTrueGoals conditions → (s : List ℕ) → AllowedBy f.facts s → pos 0 ≤ℤ items_value s [] m
   count_true g s k = goal_true (outside f.facts) m (g (suc zero) (owed f.facts a) (omega arith)) s [] (k.1, k.2, tt)
@@ -112,7 +112,7 @@ module _ (f : Focus) (p : IsProper f) (n : Items) (c : Cond) (b : Term) (q : f.t
     last = count_of (items_value s r (behind n a m))
 
     abbrev at : ℕ → Tensor
-    at i = den row s (i ∷ r) t
+    at i = den summand s (i ∷ r) t
 
     abbrev none : Tensor
     none = zeros (dims b s (extents_of t))
@@ -133,7 +133,8 @@ module _ (f : Focus) (p : IsProper f) (n : Items) (c : Cond) (b : Term) (q : f.t
     all_counts : first + (extent m s + last) ≡ extent n s
     all_counts =
         three_counts (items_value s r a) (items_value s [] m) (items_value s r (behind n a m)) (items_value s [] n)
-        (ap (λ (z : ℤ). items_value s r (behind n a m) +ℤ z) (ap (λ (z : ℤ). items_value s r a +ℤ z) (sym (steady_of sizes s m hm r)) ∙ sym (sum_of-value s r a m))
+        (ap (λ (z : ℤ). items_value s r (behind n a m) +ℤ z)
+        (ap (λ (z : ℤ). items_value s r a +ℤ z) (sym (steady_of sizes s m hm r)) ∙ sym (sum_of-value s r a m))
         ∙ value-difference s r n (sum_of a m) ∙ steady_of sizes s n (sum_scoped f p n c b q).0 r)
         range.0 many range.1
 
@@ -169,11 +170,11 @@ module _ (f : Focus) (p : IsProper f) (n : Items) (c : Cond) (b : Term) (q : f.t
         (λ held. not_after (first + (extent m s + i)) (omega arith) (within (first + (extent m s + i)) k held))
 
     at_turn : (i : ℕ) → den moved s (i ∷ r) t ≡ at (first + i)
-    at_turn i = (one_put row row_ordered s turn (normal-ordered turn normal) (first + i) (i ∷ []) r t (turn_value i)).1
+    at_turn i = (one_put summand row_ordered s turn (normal-ordered turn normal) (first + i) (i ∷ []) r t (turn_value i)).1
 
-    same_sum : den (sum m moved) s r t ≡ den (sum n row) s r t
+    same_sum : den (sum m moved) s r t ≡ den (sum n summand) s r t
     same_sum =
-        (λ l. total (zeros (put_extents (turn ∷ []) 1 s row 0 0 (extents_of t) l)) (tabulate (extent m s) (λ i. at_turn i l)))
+        (λ l. total (zeros (put_extents (turn ∷ []) 1 s summand 0 0 (extents_of t) l)) (tabulate (extent m s) (λ i. at_turn i l)))
         ∙ sym (narrow_total none (zeros_idempotent (dims b s (extents_of t))) first (extent m s) last at none_before none_after)
         ∙ (λ l. total none (tabulate (all_counts l) at))
 
@@ -181,17 +182,18 @@ module _ (f : Focus) (p : IsProper f) (n : Items) (c : Cond) (b : Term) (q : f.t
   narrow_made = (
     (λ g. record {
       scoped = and_from (items_scoped sizes 0 m) (term_scoped sizes moved (vars + 1) tensors) hm
-          (moved_scoped sizes vars tensors a row ha (row_scoped f p n c b q));
-      extents = λ s ds k h. put_extents (turn ∷ []) 1 s row 0 0 ds ∙ ap (λ (e : Term). dims e s ds) (sym q);
+          (moved_scoped sizes vars tensors a summand ha (row_scoped f p n c b q));
+      extents = λ s ds k h. put_extents (turn ∷ []) 1 s summand 0 0 ds ∙ ap (λ (e : Term). dims e s ds) (sym q);
       goals = λ s ds k h. (
         at_least (items_value s [] m) (count_true g s k),
-        put_goals (turn ∷ []) 1 s row 0 0 ds (subst (λ (e : Term). GoalsFit e s ds) q (focus_goals f p s ds k h)).1,
+        put_goals (turn ∷ []) 1 s summand 0 0 ds (subst (λ (e : Term). GoalsFit e s ds) q (focus_goals f p s ds k h)).1,
       );
       meaning = λ s r t k h.
           same_sum s r t (range_true g s r h.facts) (count_true g s k) (λ i l held. turn_true g s r i h.facts l held) ∙ ap (λ (e : Term). den e s r t) (sym q);
     }),
     same_shape_there (shape_of f.term (given f.shapes)) (shape_of (sum m moved) (given f.shapes)) p.shaped
-        ((λ i. with_child 0 (put_shape (turn ∷ []) 1 [] row 0 0 (given f.shapes) i) (λ ns. Ok ns)) ∙ ap (λ (e : Term). shape_of e (given f.shapes)) (sym q)),
+        ((λ i. with_child 0 (put_shape (turn ∷ []) 1 [] summand 0 0 (given f.shapes) i) (λ ns. Ok ns))
+        ∙ ap (λ (e : Term). shape_of e (given f.shapes)) (sym q)),
   )
 
 -- the rule where it is known whether the arguments fit

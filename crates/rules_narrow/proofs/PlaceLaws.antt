@@ -149,7 +149,8 @@ module _ (f : Focus) (p : IsProper f) (n : Items) (c : Cond) (b : Term) (q : f.t
   facts_parts = and_parts (all_scoped sizes 0 f.facts.assumes) (path_scoped sizes 0 f.facts.path) p.scoped
 
   -- what is known within the guard holds at each turn at which the guard does
-  pub inside_holds : (s r : List ℕ) (i : ℕ) → FactsHold f.facts s r → i < extent n s → all_hold s (i ∷ r) c.all ≡ true → FactsHold (inside f.facts n c) s (i ∷ r)
+  pub inside_holds : (s r : List ℕ) (i : ℕ) → FactsHold f.facts s r → i < extent n s → all_hold s (i ∷ r) c.all ≡ true
+      → FactsHold (inside f.facts n c) s (i ∷ r)
   inside_holds s r i h l g =
       let steady = all_steady sizes s f.facts.assumes facts_parts.0 in (
         h.0,

@@ -14,7 +14,8 @@ use Rattle.affine_index.proofs.Lists.{drop-item}
 use Rattle.fact_list.specs.Atoms.{same_atoms}
 use Rattle.fact_list.specs.Facts.{where_normal}
 use Rattle.fact_list.specs.declared.refusal.CertRefusal.{CertRefusal}
-use Rattle.zeroed_forms.specs.Zeroed.{Zeroed, all_plus, all_times, atom_zeroed, factors_zeroed, plus, product, quotient, terms_zeroed, times, whole_items, wholes}
+use Rattle.zeroed_forms.specs.Zeroed.{Zeroed, all_plus, all_times, atom_zeroed, factors_zeroed, plus, product, quotient, terms_zeroed, times}
+use Rattle.zeroed_forms.specs.Zeroed.{whole_items, wholes}
 use Rattle.zeroed_forms.specs.Zeroed.{zero_items_step, zero_step, zeroed}
 
 module _ (z : Atom) where

@@ -13,5 +13,6 @@ with_indices-requires-clause-within c =
 
 pub returns : goal.returns
 returns c =
-    subst (λ (by : List Items). IfOk c.sum_of.result (IsDraft (sum c.args.m.now (mapped (put_index_map by 1) 0 0 c.args.row.now)))) (c.in_ok-by.ensures {u = tt})
+    subst (λ (by : List Items). IfOk c.sum_of.result (IsDraft (sum c.args.m.now (mapped (put_index_map by 1) 0 0 c.args.row.now))))
+    (c.in_ok-by.ensures {u = tt})
     (c.sum_of.ensures (mapped (put_index_map c.in_ok-by.by 1) 0 0 c.args.row.now) (c.in_ok-moved.ensures {u = tt}))
