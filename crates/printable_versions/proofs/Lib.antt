@@ -1,0 +1,11 @@
+pub mod HeldLaws
+pub mod Words
+pub mod LoopWords
+pub mod NarrowWords
+pub mod GuardWords
+pub mod LetWords
+pub mod GenWords
+pub mod TensorWords
+pub mod ShapeWords
+pub mod StepWords
+pub mod Versions
