@@ -75,6 +75,9 @@ ROWS = [
     ("atl 1; size N in 0..8; example N = 2; input A[N]; output B = sum i < N. let t = A[i] * A[i] in t * t;", [([3], [[1, 2, 3]], [[98]])]),
 ]
 
+# Examples that are in final form only under their scripts.
+UNDER_SCRIPT = ("attention.atl",)
+
 # Sources under scripts: what the C leaves is what the source denotes, before any step.
 SCHEDULED = [
     (SCALE.replace("0..8", "1..8") % "(gen j < N. A[j] * 2)[i]", "schedule 1; at 0.0 do beta;"),
@@ -461,7 +464,7 @@ def fault(program, content, script, by_hand, dice, folder):
 def main():
     top = os.path.dirname(os.path.dirname(os.path.abspath(__file__)))
     program = os.path.abspath(sys.argv[1]) if len(sys.argv) > 1 else f"{top}/crates/atl_cli/out/atl_cli"
-    examples = sorted(glob.glob(f"{top}/examples/*.atl"))
+    examples = sorted(it for it in glob.glob(f"{top}/examples/*.atl") if os.path.basename(it) not in UNDER_SCRIPT)
     todo = [(os.path.relpath(it, top), open(it).read(), None, []) for it in examples] + [(text, text, None, rows) for text, rows in ROWS]
     for it in sorted(glob.glob(f"{top}/examples/*.sched")):
         todo.append((os.path.relpath(it, top), open(it[:-5] + "atl").read(), open(it).read(), []))

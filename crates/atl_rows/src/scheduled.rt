@@ -338,3 +338,46 @@ fn operands_are_exchanged_up_to_a_thousand_times(rt: HostRuntime) -> Result<(), 
         "F20 ScriptSyntax at 24012\n",
     )
 }
+
+// examples/attention.atl
+const ATTENTION: &str = "atl 1; size N in 1..64; size D in 1..64; example N = 2, D = 2; \
+     input Q[N][D]; input K[N][D]; input V[N][D]; output O = \
+     let s = gen i < N. gen j < N. sum d < D. Q[i][d] * transpose(K)[d][j] in \
+     gen i < N. gen e < D. sum j < N. s[i][j] * V[j][e];";
+
+// examples/attention.sched
+const ATTENTION_STEPS: &str = "schedule 1; \
+     at 0.0.0.0.0.1.0 do transpose_index; \
+     at 0.0.0.0.0.1 do beta; \
+     at 0.0 do split_gen(4); \
+     at 0.0.0.0.0.0 do guard_gen; \
+     at 0.0.0.0.0.0.0 do guard_sum; \
+     at 0.1.0 do gen_sum; \
+     at 0.1 do split_gen(2); \
+     at 0.1.0.0.0.0 do guard_sum; \
+     at 0.1.0.0.0.0.0 do guard_gen; \
+     at 0.1.0.0.0.0.0.0.0 do ring(mul_comm); \
+     at 0.0.0.0.0.0.0 do split_sum(2); \
+     at 0.0.0.0.0.0.0.0.0 do guard_merge;";
+
+// What its steps make of it, by the rules.
+const ATTENTION_IN_TILES: &str = "atl 1; size N in 1..64; size D in 1..64; example N = 2, D = 2; \
+     input Q[N][D]; input K[N][D]; input V[N][D]; output O = \
+     let s = truncr(4 * ((N + 3) / 4) - N, flatten(gen p < (N + 3) / 4. gen q < 4. gen j < N. \
+     sum u < (D + 1) / 2. sum v < 2. guard 2 * u + v < D and 4 * p + q < N. \
+     Q[4 * p + q][2 * u + v] * K[j][2 * u + v])) in \
+     truncr(2 * ((N + 1) / 2) - N, flatten(gen p < (N + 1) / 2. gen q < 2. sum j < N. gen e < D. \
+     guard 2 * p + q < N. V[j][e] * s[2 * p + q][j]));";
+
+#[test]
+fn attention_goes_in_tiles_by_twelve_steps(rt: HostRuntime) -> Result<(), Fail> {
+    let alloc = rt.alloc();
+    is_refused(
+        &rt,
+        alloc,
+        ATTENTION,
+        "schedule 1;",
+        "F30 NotLowerable path 0.0.0.0.0.1\n",
+    )?;
+    becomes(&rt, alloc, ATTENTION, ATTENTION_STEPS, ATTENTION_IN_TILES)
+}

@@ -326,6 +326,86 @@ fn rules_of_rows_do_what_their_examples_show(rt: HostRuntime) -> Result<(), Fail
 }
 
 #[test]
+fn rules_of_tensors_do_what_their_examples_show(rt: HostRuntime) -> Result<(), Fail> {
+    let table = [
+        (
+            "gen j < M. transpose(A)[j]",
+            "at 0.0 do transpose_index",
+            "gen j < M. gen i < N. A[i][j]",
+        ),
+        (
+            "gen i < N. gen j < M. flatten(A)[M * i + j]",
+            "at 0.0.0 do flatten_index(i0, i1)",
+            "gen i < N. gen j < M. A[i][j]",
+        ),
+        (
+            "gen p < (N + 3) / 4. split(4, X)[p]",
+            "at 0.0 do split_index",
+            "gen p < (N + 3) / 4. gen q < 4. X[4 * p + q]",
+        ),
+        ("transpose(transpose(A))", "at 0 do transpose_twice", "A"),
+        (
+            "split(4, flatten(gen i < N. gen j < 4. X[i]))",
+            "at 0 do split_flatten",
+            "gen i < N. gen j < 4. X[i]",
+        ),
+        (
+            "flatten(split(4, X))",
+            "at 0 do flatten_split",
+            "padr(4 * ((N + 3) / 4) - N, X)",
+        ),
+        ("truncl(1, padl(1, X))", "at 0 do pad_trunc_l", "X"),
+        ("truncr(M, padr(M, X))", "at 0 do pad_trunc_r", "X"),
+        (
+            "concat(concat(X, Y), Z)",
+            "at 0 do concat_assoc",
+            "concat(X, concat(Y, Z))",
+        ),
+    ];
+    all_become(&rt, rt.alloc(), &table)
+}
+
+#[test]
+fn tensors_of_another_form_are_refused(rt: HostRuntime) -> Result<(), Fail> {
+    let table = [
+        ("transpose(A)", "at 0 do transpose_twice", 23, 0),
+        ("truncl(1, padl(2, X))", "at 0 do pad_trunc_l", 23, 0),
+        ("truncl(1, padr(1, X))", "at 0 do pad_trunc_l", 23, 0),
+        (
+            "split(3, flatten(gen i < N. gen j < 4. X[i]))",
+            "at 0 do split_flatten",
+            23,
+            0,
+        ),
+        (
+            "gen i < N. gen j < M. flatten(A)[M * i + j]",
+            "at 0.0.0 do flatten_index(i1, i0)",
+            24,
+            0,
+        ),
+        (
+            "gen i < N. gen j < M. flatten(A)[M * i + j]",
+            "at 0.0.0 do flatten_index(i0)",
+            24,
+            0,
+        ),
+        (
+            "gen i < N. gen j < M + 1. flatten(A)[M * i + j]",
+            "at 0.0.0 do flatten_index(i0, i1)",
+            25,
+            2,
+        ),
+        (
+            "gen i < N. flatten(A)[i]",
+            "at 0.0 do transpose_index",
+            23,
+            0,
+        ),
+    ];
+    all_fail(&rt, rt.alloc(), &table)
+}
+
+#[test]
 fn laws_do_what_their_examples_show(rt: HostRuntime) -> Result<(), Fail> {
     let table = [
         ("X + Y", "at 0 do ring(add_comm)", "Y + X"),

@@ -81,12 +81,21 @@ guard_rules =
 -- rules of shapes, and laws of arithmetic on words
 abbrev pub shape_rules : Names
 shape_rules =
-    (codes "padl_index", Shape shape.PadlIndex)
+    (codes "transpose_index", Shape shape.TransposeIndex)
+    ∷ (codes "flatten_index", Shape shape.FlattenIndex)
+    ∷ (codes "split_index", Shape shape.SplitIndex)
+    ∷ (codes "padl_index", Shape shape.PadlIndex)
     ∷ (codes "padr_index", Shape shape.PadrIndex)
     ∷ (codes "truncl_index", Shape shape.TrunclIndex)
     ∷ (codes "truncr_index", Shape shape.TruncrIndex)
     ∷ (codes "concat_index_left", Shape shape.ConcatIndexLeft)
     ∷ (codes "concat_index_right", Shape shape.ConcatIndexRight)
+    ∷ (codes "transpose_twice", Shape shape.TransposeTwice)
+    ∷ (codes "split_flatten", Shape shape.SplitFlatten)
+    ∷ (codes "flatten_split", Shape shape.FlattenSplit)
+    ∷ (codes "pad_trunc_l", Shape shape.PadTruncL)
+    ∷ (codes "pad_trunc_r", Shape shape.PadTruncR)
+    ∷ (codes "concat_assoc", Shape shape.ConcatAssoc)
     ∷ (codes "ring", Shape shape.Ring)
     ∷ []
 

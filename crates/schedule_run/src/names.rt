@@ -110,6 +110,9 @@ fn shape_rule(name: &str) -> Option<Rule>
 {
     among(
         &[
+            ("transpose_index", Rule::Shape(ShapeRule::TransposeIndex)),
+            ("flatten_index", Rule::Shape(ShapeRule::FlattenIndex)),
+            ("split_index", Rule::Shape(ShapeRule::SplitIndex)),
             ("padl_index", Rule::Shape(ShapeRule::PadlIndex)),
             ("padr_index", Rule::Shape(ShapeRule::PadrIndex)),
             ("truncl_index", Rule::Shape(ShapeRule::TrunclIndex)),
@@ -119,6 +122,12 @@ fn shape_rule(name: &str) -> Option<Rule>
                 "concat_index_right",
                 Rule::Shape(ShapeRule::ConcatIndexRight),
             ),
+            ("transpose_twice", Rule::Shape(ShapeRule::TransposeTwice)),
+            ("split_flatten", Rule::Shape(ShapeRule::SplitFlatten)),
+            ("flatten_split", Rule::Shape(ShapeRule::FlattenSplit)),
+            ("pad_trunc_l", Rule::Shape(ShapeRule::PadTruncL)),
+            ("pad_trunc_r", Rule::Shape(ShapeRule::PadTruncR)),
+            ("concat_assoc", Rule::Shape(ShapeRule::ConcatAssoc)),
             ("ring", Rule::Shape(ShapeRule::Ring)),
         ],
         name,
