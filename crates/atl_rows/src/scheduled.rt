@@ -381,3 +381,16 @@ fn attention_goes_in_tiles_by_twelve_steps(rt: HostRuntime) -> Result<(), Fail> 
     )?;
     becomes(&rt, alloc, ATTENTION, ATTENTION_STEPS, ATTENTION_IN_TILES)
 }
+
+const CUT: &str =
+    "atl 1; size N in 2..8; example N = 3; input A[N]; output B = truncr(2, gen i < N. A[i]);";
+
+const SHORTER: &str =
+    "atl 1; size N in 2..8; example N = 3; input A[N]; output B = gen i < N - 2. A[i];";
+
+#[test]
+fn rows_that_are_cut_off_are_not_computed_after_a_step(rt: HostRuntime) -> Result<(), Fail> {
+    let alloc = rt.alloc();
+    is_refused(&rt, alloc, CUT, "schedule 1;", "F33 DropNotShown goal 1\n")?;
+    becomes(&rt, alloc, CUT, "schedule 1; at 0 do trunc_gen_r;", SHORTER)
+}

@@ -225,6 +225,16 @@ fn rules_of_guards_do_what_their_examples_show(rt: HostRuntime) -> Result<(), Fa
             "at 0.0 do access_guard",
             "gen i < N. guard i + 1 >= 0 and i + 1 < N. X[i + 1]",
         ),
+        (
+            "sum i < K. guard i >= 1 and i < 3. Z[i]",
+            "at 0 do sum_narrow(1, 2)",
+            "sum i < 2. guard i + 1 >= 1 and i + 1 < 3. Z[i + 1]",
+        ),
+        (
+            "gen i < 4. Z[i / 4]",
+            "at 0.0 do div_zero(i0 / 4)",
+            "gen i < 4. Z[0]",
+        ),
     ];
     all_become(&rt, rt.alloc(), &table)
 }
@@ -284,6 +294,59 @@ fn conditions_of_guards_are_those_of_comparisons(rt: HostRuntime) -> Result<(), 
             0,
         ),
         ("X", "at 0 do access_guard", 23, 0),
+    ];
+    all_fail(&rt, alloc, &table)
+}
+
+#[test]
+fn narrow_sums_and_quotients_of_zero_are_shown(rt: HostRuntime) -> Result<(), Fail> {
+    let alloc = rt.alloc();
+    let rows = [(
+        "gen i < 4. guard i / 4 + i < K. Z[i / 4 + i]",
+        "at 0.0 do div_zero(i0 / 4)",
+        "gen i < 4. guard i < K. Z[i / 4 + i]",
+    )];
+    all_become(&rt, alloc, &rows)?;
+    let table = [
+        ("sum i < K. Z[i]", "at 0 do sum_narrow(1, 2)", 23, 0),
+        (
+            "sum i < K. guard i >= 1. Z[i]",
+            "at 0 do sum_narrow(1)",
+            24,
+            0,
+        ),
+        (
+            "sum i < K. guard i < 3. Z[i]",
+            "at 0 do sum_narrow(0, i0)",
+            24,
+            0,
+        ),
+        (
+            "sum i < K. guard i >= 1 and i < 4. Z[i]",
+            "at 0 do sum_narrow(1, 3)",
+            25,
+            3,
+        ),
+        (
+            "sum i < K. guard i < 3. Z[i]",
+            "at 0 do sum_narrow(1, 2)",
+            25,
+            4,
+        ),
+        (
+            "sum i < K. guard i >= 1. Z[i]",
+            "at 0 do sum_narrow(1, 2)",
+            25,
+            5,
+        ),
+        ("gen i < 5. Z[i / 4]", "at 0.0 do div_zero(i0 / 4)", 25, 1),
+        ("gen i < 4. Z[i]", "at 0.0 do div_zero(i0 / 4)", 24, 0),
+        (
+            "gen i < 4. Z[i / 4] + 1",
+            "at 0.0 do div_zero(i0 / 4)",
+            23,
+            0,
+        ),
     ];
     all_fail(&rt, alloc, &table)
 }
@@ -399,6 +462,71 @@ fn tensors_of_another_form_are_refused(rt: HostRuntime) -> Result<(), Fail> {
             "gen i < N. flatten(A)[i]",
             "at 0.0 do transpose_index",
             23,
+            0,
+        ),
+    ];
+    all_fail(&rt, rt.alloc(), &table)
+}
+
+#[test]
+fn rules_of_shapes_of_gens_do_what_their_examples_show(rt: HostRuntime) -> Result<(), Fail> {
+    let table = [
+        (
+            "truncl(1, gen i < K. Z[i])",
+            "at 0 do trunc_gen_l",
+            "gen i < K - 1. Z[i + 1]",
+        ),
+        (
+            "truncr(1, gen i < K. Z[i])",
+            "at 0 do trunc_gen_r",
+            "gen i < K - 1. Z[i]",
+        ),
+        (
+            "padl(1, gen i < N. X[i])",
+            "at 0 do pad_gen_l",
+            "gen i < N + 1. guard i >= 1. X[i - 1]",
+        ),
+        (
+            "padr(1, gen i < N. X[i])",
+            "at 0 do pad_gen_r",
+            "gen i < N + 1. guard i < N. X[i]",
+        ),
+        (
+            "concat(gen i < N. X[i], gen i < K. Z[i])",
+            "at 0 do concat_gen",
+            "gen i < N + K. (guard i < N. X[i]) + (guard i >= N. Z[i - N])",
+        ),
+        (
+            "split(4, gen i < N. X[i])",
+            "at 0 do split_of_gen",
+            "gen p < (N + 3) / 4. gen q < 4. guard 4 * p + q < N. X[4 * p + q]",
+        ),
+        (
+            "flatten(gen i < 1. gen j < N. X[i + j])",
+            "at 0 do flatten_of_gen",
+            "gen j < N. X[j]",
+        ),
+    ];
+    all_become(&rt, rt.alloc(), &table)
+}
+
+#[test]
+fn gens_of_another_form_are_refused(rt: HostRuntime) -> Result<(), Fail> {
+    let table = [
+        ("truncl(1, Z)", "at 0 do trunc_gen_l", 23, 0),
+        ("padl(1, gen i < N. X[i])", "at 0 do pad_gen_r", 23, 0),
+        ("concat(X, gen i < N. X[i])", "at 0 do concat_gen", 23, 0),
+        ("split(4, X)", "at 0 do split_of_gen", 23, 0),
+        (
+            "flatten(gen i < 2. gen j < N. X[j])",
+            "at 0 do flatten_of_gen",
+            23,
+            0,
+        ),
+        (
+            "truncr(1, gen i < K. Z[i])",
+            "at 0 do trunc_gen_r(1)",
+            24,
             0,
         ),
     ];

@@ -28,7 +28,7 @@ abbrev pub owed_at : Module → Step → Rule → Option Focus → Owed
 owed_at m s r None = Err NoSuchPath
 owed_at m s r (Some f) = owed_by (meant_by r f (arguments_at (map (λ d. d.name) m.sizes) f s.rule s.args))
 
--- those of the rule of a step, which is one that is built
+-- those of the rule of a step, where its name is that of one
 abbrev pub owed_of : Module → Step → Option Rule → Owed
 owed_of m s None = Err NoSuchRule
 owed_of m s (Some r) = owed_at m s r (focus_of m s.path)

@@ -76,6 +76,8 @@ guard_rules =
     ∷ (codes "guard_index", Guard guard.GuardIndex)
     ∷ (codes "guard_cases", Guard guard.GuardCases)
     ∷ (codes "access_guard", Guard guard.AccessGuard)
+    ∷ (codes "sum_narrow", Guard guard.SumNarrow)
+    ∷ (codes "div_zero", Guard guard.DivZero)
     ∷ []
 
 -- rules of shapes, and laws of arithmetic on words
@@ -95,7 +97,14 @@ shape_rules =
     ∷ (codes "flatten_split", Shape shape.FlattenSplit)
     ∷ (codes "pad_trunc_l", Shape shape.PadTruncL)
     ∷ (codes "pad_trunc_r", Shape shape.PadTruncR)
+    ∷ (codes "trunc_gen_l", Shape shape.TruncGenL)
+    ∷ (codes "trunc_gen_r", Shape shape.TruncGenR)
+    ∷ (codes "pad_gen_l", Shape shape.PadGenL)
+    ∷ (codes "pad_gen_r", Shape shape.PadGenR)
+    ∷ (codes "concat_gen", Shape shape.ConcatGen)
     ∷ (codes "concat_assoc", Shape shape.ConcatAssoc)
+    ∷ (codes "split_of_gen", Shape shape.SplitOfGen)
+    ∷ (codes "flatten_of_gen", Shape shape.FlattenOfGen)
     ∷ (codes "ring", Shape shape.Ring)
     ∷ []
 

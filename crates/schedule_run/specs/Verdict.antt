@@ -105,7 +105,7 @@ abbrev pub applied : Module → Step → Rule → Option Focus → Result Module
 applied m s r None = Err NoSuchPath
 applied m s r (Some f) = changed m s.path s.lines (meant_by r f (arguments_at (map (λ d. d.name) m.sizes) f s.rule s.args))
 
--- the rule of the step, which is one that is built
+-- the rule of the step, where its name is that of one
 abbrev pub ruled : Module → Step → Option Rule → Result Module StepKind
 ruled m s None = Err NoSuchRule
 ruled m s (Some r) = applied m s r (focus_of m s.path)
