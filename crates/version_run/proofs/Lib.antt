@@ -1,0 +1,3 @@
+pub mod DenotedLaws
+pub mod SizeLaws
+pub mod WordLaws
