@@ -1,5 +1,5 @@
 -- The texts of a trial are short.
-use Rattle.std.proofs.Common.{◌≡◌, ◌∙◌, ℕ, zero, suc, ◌+◌, ◌*◌, ◌^◌, ◌<◌, ◌≤◌, List, [], ◌∷◌, ◌++◌, length, flat_map, codes, decimal, ap, arith}
+use Rattle.std.proofs.Common.{ℕ, zero, suc, ◌+◌, ◌*◌, ◌^◌, ◌<◌, ◌≤◌, List, [], ◌∷◌, ◌++◌, length, flat_map, codes, decimal, arith}
 use Rattle.std.proofs.lemmas.Fmt.{length-decimal-le}
 use Rattle.std.proofs.lemmas.List.{length-append}
 use Rattle.std.proofs.lemmas.Nat.{mod_below}
@@ -31,8 +31,8 @@ let-length n h =
     let next = name-length (suc n) (omega (arith, h)) in
     let here = name-length n (omega (arith, h)) in
     let all =
-    five-short (codes "  let ") (tensor_name (suc n)) (codes " = gen i < N. sum j < 3. (guard i + j < N. ") (tensor_name n) (codes "[i + j]) * W[j] in\n") 6 21 60 21 30
-    (omega arith) next (omega arith) here (omega arith) in
+    five-short (codes "  let ") (tensor_name (suc n)) (codes " = gen i < N. sum j < 3. (guard i + j < N. ") (tensor_name n)
+    (codes "[i + j]) * W[j] in\n") 6 21 60 21 30 (omega arith) next (omega arith) here (omega arith) in
     omega (arith, all)
 
 lets-length : (k : ℕ) → k ≤ 17 → length (lets_text k) ≤ 200 * k
