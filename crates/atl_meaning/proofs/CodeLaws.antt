@@ -227,13 +227,13 @@ module _ (s : List ℕ) where
   pub exact-Flatten : (w e : Term) (r : List ℕ) → w ≡ Flatten e → exact s w r ≡ true → exact s e r ≡ true
   exact-Flatten w e r i h = sym (ap (λ w. exact s w r) (i ∙ Flatten-is e) ∙ ap (λ f. f r) (fold-flatten (List ℕ → Bool) (exact_step s) e)) ∙ h
 
-  counted-Transpose : (w e : Term) → w ≡ Transpose e → counted s w ≡ true → counted s e ≡ true
+  pub counted-Transpose : (w e : Term) → w ≡ Transpose e → counted s w ≡ true → counted s e ≡ true
   counted-Transpose w e i h = sym (ap (counted s) (i ∙ Transpose-is e) ∙ fold-transpose Bool (counted_step s) e) ∙ h
 
-  exact-Transpose : (w e : Term) (r : List ℕ) → w ≡ Transpose e → exact s w r ≡ true → exact s e r ≡ true
+  pub exact-Transpose : (w e : Term) (r : List ℕ) → w ≡ Transpose e → exact s w r ≡ true → exact s e r ≡ true
   exact-Transpose w e r i h = sym (ap (λ w. exact s w r) (i ∙ Transpose-is e) ∙ ap (λ f. f r) (fold-transpose (List ℕ → Bool) (exact_step s) e)) ∙ h
 
-  exact-Split : (w : Term) (n : ℕ) (e : Term) (r : List ℕ) → w ≡ Split n e → exact s w r ≡ true → exact s e r ≡ true
+  pub exact-Split : (w : Term) (n : ℕ) (e : Term) (r : List ℕ) → w ≡ Split n e → exact s w r ≡ true → exact s e r ≡ true
   exact-Split w n e r i h = sym (ap (λ w. exact s w r) (i ∙ Split-is n e) ∙ ap (λ f. f r) (fold-split (List ℕ → Bool) (exact_step s) n e)) ∙ h
 
   -- the child of a row or of a node that lays rows out anew

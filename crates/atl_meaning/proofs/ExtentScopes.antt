@@ -1,5 +1,5 @@
 -- The extents that operators give name what their operands name.
-use Rattle.std.proofs.Common.{◌≡◌, ℕ, zero, suc, ◌-◌, [], ◌∷◌, List, get_or, refl, true, ◌&&◌}
+use Rattle.std.proofs.Common.{◌≡◌, ℕ, zero, suc, ◌-◌, [], ◌∷◌, List, get_or, refl, true}
 use Rattle.std.specs.Prelude.{pos}
 use Rattle.std.proofs.lemmas.Bool.{and_from, and_parts}
 use Rattle.affine_index.specs.Form.{literal_form}

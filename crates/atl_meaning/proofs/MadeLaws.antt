@@ -1,5 +1,5 @@
 -- Answers that are made of another answer.
-use Rattle.std.proofs.Common.{◌≡◌, List, ap, subst, sym, ◌∙◌, Result, Ok, Err, IfOk, OnOk}
+use Rattle.std.proofs.Common.{◌≡◌, List, ℕ, ap, subst, sym, ◌∙◌, Result, Ok, Err, IfOk, OnOk}
 use Rattle.term_tree.specs.Tensors.{Tensor}
 use Rattle.atl_meaning.specs.Made.{IsMade, IsOf}
 use Rattle.atl_meaning.specs.Values.{meant}
@@ -39,3 +39,26 @@ of-meant f more bs before (Err e) x m k h = tt
 pub below_fits : {A E : Type 0} (P : A → Type 0) (r : Result A E) (x : A) → IfOk r (λ a. a ≡ x) → P x → IfOk r P
 below_fits P (Ok a) x h p = subst P (sym h) p
 below_fits P (Err e) x h p = tt
+
+-- what is made of an answer in a state that was kept
+module _ {A B E R : Type 0} (P : R → A → B → Type 0) where
+  pub of-state : (more r : R) (before : Result A E) (after : Result B E) → IsOf (P more) before after → OnOk before (more ≡ r) → IsOf (P r) before after
+  of-state more r before (Ok b) m k =
+      let kept : more ≡ r = subst (λ (q : Result A E). OnOk q (more ≡ r)) m.1 k in
+      (m.0, m.1, subst (λ (q : R). P q m.0 b) kept m.2)
+  of-state more r before (Err e) m k = tt
+
+-- a fact by two facts of the same answer
+pub of-both : {A E : Type 0} (P Q R : A → Type 0) (r : Result A E) → ((a : A) → P a → Q a → R a) → IfOk r P → IfOk r Q → IfOk r R
+of-both P Q R (Ok a) f p q = f a p q
+of-both P Q R (Err e) f p q = tt
+
+-- a tensor that is made of a definition
+pub of-definition : {E : Type 0} (f : List ℕ → Tensor → Tensor) (before : Result Binding E) (after : Result Value E) (ds : List ℕ) (x : Tensor)
+    → IsOf (λ d v. meant v ≡ f d.extents (meant d.value)) before after → IfOk before (λ d. d.extents ≡ ds) → IfOk before (λ d. meant d.value ≡ x)
+    → IfOk after (λ v. meant v ≡ f ds x)
+of-definition {E} f before (Ok v) ds x m k h =
+    let extents : m.0.extents ≡ ds = subst (λ (r : Result Binding E). IfOk r (λ d. d.extents ≡ ds)) m.1 k in
+    let value : meant m.0.value ≡ x = subst (λ (r : Result Binding E). IfOk r (λ d. meant d.value ≡ x)) m.1 h in
+    m.2 ∙ (λ i. f (extents i) (value i))
+of-definition f before (Err e) ds x m k h = tt

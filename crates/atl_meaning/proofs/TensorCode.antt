@@ -1,13 +1,16 @@
 -- The tensor of a term at the variants that code matches on, by that of its child.
-use Rattle.std.proofs.Common.{◌≡◌, ℕ, ◌+◌, ◌-◌, ◌/◌, List, ◌++◌, drop, ap, ◌∙◌}
+use Rattle.std.proofs.Common.{◌≡◌, ℕ, ◌+◌, ◌-◌, ◌/◌, List, ◌++◌, ◌∷◌, drop, ap, ◌∙◌}
 use Rattle.affine_index.specs.declared.aff.Aff.{Aff}
 use Rattle.term_tree.specs.Meaning.{Bound, chunks, columns, extent, extents_of, head_of, tail_of}
-use Rattle.term_tree.specs.Tensors.{Tensor, copies, drop_last, from_rows, joined, rows_of, zeros}
+use Rattle.term_tree.specs.Tensors.{Tensor, by_places, copies, drop_last, from_rows, joined, rows_of, zeros}
 use Rattle.term_tree.specs.declared.term.Term.{Term}
-use Rattle.term_tree.specs.declared.term.Term.TheVariants.{Flatten, Split, Transpose, TruncL, TruncR, PadL, PadR}
+use Rattle.term_tree.specs.declared.term.Term.TheVariants.{Let, Add, Sub, Mul, Concat, Flatten, Split, Transpose, TruncL, TruncR, PadL, PadR}
+use Rattle.term_tree.proofs.Folds.{fold-let_in, fold-add, fold-sub, fold-mul, fold-concat}
 use Rattle.term_tree.proofs.Folds.{fold-flatten, fold-split, fold-transpose, fold-trunc_l, fold-trunc_r, fold-pad_l, fold-pad_r}
-use Rattle.term_tree.proofs.Forms.{Flatten-is, Split-is, Transpose-is, TruncL-is, TruncR-is, PadL-is, PadR-is}
+use Rattle.term_tree.proofs.Forms.{Let-is, Add-is, Sub-is, Mul-is, Concat-is, Flatten-is, Split-is, Transpose-is, TruncL-is, TruncR-is, PadL-is, PadR-is}
 use Rattle.atl_meaning.specs.Denoted.{Denoted, denoted, denoted_step}
+use Rattle.atl_meaning.specs.Operations.{on_words}
+use Rattle.atl_meaning.specs.declared.operation.Operation.TheVariants.{Plus, Minus, Times}
 
 module _ (s r : List ℕ) (t : List Bound) where
   abbrev tensor : Term → Tensor
@@ -15,6 +18,21 @@ module _ (s r : List ℕ) (t : List Bound) where
 
   abbrev dims : Term → List ℕ
   dims e = (denoted s e).extents (extents_of t)
+
+  pub tensor-Let : (w a b : Term) → w ≡ Let a b → tensor w ≡ (denoted s b).tensor r ((dims a, tensor a) ∷ t)
+  tensor-Let w a b i = ap tensor (i ∙ Let-is a b) ∙ ap (λ d. d.tensor r t) (fold-let_in Denoted (denoted_step s) a b)
+
+  pub tensor-Add : (w a b : Term) → w ≡ Add a b → tensor w ≡ by_places (on_words Plus) (tensor a) (tensor b)
+  tensor-Add w a b i = ap tensor (i ∙ Add-is a b) ∙ ap (λ d. d.tensor r t) (fold-add Denoted (denoted_step s) a b)
+
+  pub tensor-Sub : (w a b : Term) → w ≡ Sub a b → tensor w ≡ by_places (on_words Minus) (tensor a) (tensor b)
+  tensor-Sub w a b i = ap tensor (i ∙ Sub-is a b) ∙ ap (λ d. d.tensor r t) (fold-sub Denoted (denoted_step s) a b)
+
+  pub tensor-Mul : (w a b : Term) → w ≡ Mul a b → tensor w ≡ by_places (on_words Times) (tensor a) (tensor b)
+  tensor-Mul w a b i = ap tensor (i ∙ Mul-is a b) ∙ ap (λ d. d.tensor r t) (fold-mul Denoted (denoted_step s) a b)
+
+  pub tensor-Concat : (w a b : Term) → w ≡ Concat a b → tensor w ≡ from_rows (rows_of (tensor a) ++ rows_of (tensor b))
+  tensor-Concat w a b i = ap tensor (i ∙ Concat-is a b) ∙ ap (λ d. d.tensor r t) (fold-concat Denoted (denoted_step s) a b)
 
   pub tensor-Flatten : (w : Term) (e : Term) → w ≡ Flatten e → tensor w ≡ from_rows (joined (rows_of (tensor e)))
   tensor-Flatten w e i = ap tensor (i ∙ Flatten-is e) ∙ ap (λ d. d.tensor r t) (fold-flatten Denoted (denoted_step s) e)

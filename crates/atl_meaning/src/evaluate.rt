@@ -223,7 +223,7 @@ fn padded_behind(
     )
 }
 
-/// A row for each value of the innermost variable.
+/// The tensor with a row for each value of the innermost variable.
 #[cycle(evaluate)]
 fn rows(
     alloc: Global,
@@ -232,12 +232,12 @@ fn rows(
     bindings: &mut Stack<Binding>,
     count: &Aff,
     body: &Term,
-) -> Result<Items<Tensor>, AllocError>
+) -> Result<Tensor, AllocError>
     requires count { IsTrue (is_counted sizes.now count.now) }
     requires counted { counted sizes.now body.now ≡ true }
     requires fits { fits_in sizes.now body.now bindings.old ≡ true }
     requires exact { exact_below sizes.now (extent count.now sizes.now) body.now vars.old ≡ true }
-    ensures value { IfOk result (λ rows. map meant rows ≡ tabulate (extent count.now sizes.now) (body_in sizes.now body.now vars.old bindings.old)) }
+    ensures value { IfOk result (λ v. meant v ≡ from_rows (tabulate (extent count.now sizes.now) (body_in sizes.now body.now vars.old bindings.old))) }
     ensures vars { OnOk result (vars.new ≡ vars.old) }
     ensures bindings { OnOk result (bindings.new ≡ bindings.old) }
 {
@@ -248,7 +248,7 @@ fn rows(
         rows.push(evaluate(alloc, sizes, vars, bindings, body)?)?;
         vars.leave();
     }
-    Ok(rows)
+    Ok(Tensor::Row(rows))
 }
 
 /// The body at each value of the innermost variable, added up from the last, as the definition adds them.
@@ -327,6 +327,31 @@ fn guarded(
     }
 }
 
+/// The tensor of a definition, with its extents.
+#[cycle(evaluate)]
+fn defined(
+    alloc: Global,
+    sizes: &[u64],
+    vars: &mut Variables,
+    bindings: &mut Stack<Binding>,
+    term: &Term,
+) -> Result<Binding, AllocError>
+    requires counted { counted sizes.now term.now ≡ true }
+    requires fits { fits_in sizes.now term.now bindings.old ≡ true }
+    requires exact { exact sizes.now term.now vars.old ≡ true }
+    ensures extents { IfOk result (λ b. b.extents ≡ extents_in sizes.now term.now bindings.old) }
+    ensures value { IfOk result (λ b. meant b.value ≡ tensor_in sizes.now term.now vars.old bindings.old) }
+    ensures vars { OnOk result (vars.new ≡ vars.old) }
+    ensures bindings { OnOk result (bindings.new ≡ bindings.old) }
+{
+    let found = extents(alloc, sizes, bindings, term)?;
+    let value = evaluate(alloc, sizes, vars, bindings, term)?;
+    Ok(Binding {
+        extents: found,
+        value,
+    })
+}
+
 /// A body under the tensor of its definition.
 #[cycle(evaluate)]
 fn under(
@@ -335,15 +360,16 @@ fn under(
     vars: &mut Variables,
     bindings: &mut Stack<Binding>,
     body: &Term,
-    definition: Binding,
+    definition: Result<Binding, AllocError>,
 ) -> Result<Tensor, AllocError>
     requires counted { counted sizes.now body.now ≡ true }
-    requires fits { fits_in sizes.now body.now (definition ∷ bindings.old) ≡ true }
-    requires exact { exact sizes.now body.now vars.old ≡ true }
-    ensures value { IfOk result (λ v. meant v ≡ tensor_in sizes.now body.now vars.old (definition ∷ bindings.old)) }
+    requires fits { IfOk definition (λ d. fits_in sizes.now body.now (d ∷ bindings.old) ≡ true) }
+    requires exact { OnOk definition (exact sizes.now body.now vars.old ≡ true) }
+    ensures value { IsOf (λ d v. meant v ≡ tensor_in sizes.now body.now vars.old (d ∷ bindings.old)) definition result }
     ensures vars { OnOk result (vars.new ≡ vars.old) }
     ensures bindings { OnOk result (bindings.new ≡ bindings.old) }
 {
+    let definition = definition?;
     bindings.enter(definition)?;
     let result = evaluate(alloc, sizes, vars, bindings, body)?;
     bindings.leave();
@@ -359,15 +385,16 @@ fn with_second(
     bindings: &mut Stack<Binding>,
     second: &Term,
     operation: Operation,
-    first: Tensor,
+    first: Result<Tensor, AllocError>,
 ) -> Result<Tensor, AllocError>
     requires counted { counted sizes.now second.now ≡ true }
-    requires fits { fits_in sizes.now second.now bindings.old ≡ true }
-    requires exact { exact sizes.now second.now vars.old ≡ true }
-    ensures value { IfOk result (λ v. meant v ≡ by_places (on_words operation) (meant first) (tensor_in sizes.now second.now vars.old bindings.old)) }
+    requires fits { OnOk first (fits_in sizes.now second.now bindings.old ≡ true) }
+    requires exact { OnOk first (exact sizes.now second.now vars.old ≡ true) }
+    ensures value { IsOf (λ c v. meant v ≡ by_places (on_words operation) (meant c) (tensor_in sizes.now second.now vars.old bindings.old)) first result }
     ensures vars { OnOk result (vars.new ≡ vars.old) }
     ensures bindings { OnOk result (bindings.new ≡ bindings.old) }
 {
+    let first = first?;
     let second = evaluate(alloc, sizes, vars, bindings, second)?;
     by_places(alloc, operation, &first, &second)
 }
@@ -380,15 +407,16 @@ fn followed_by(
     vars: &mut Variables,
     bindings: &mut Stack<Binding>,
     second: &Term,
-    first: Tensor,
+    first: Result<Tensor, AllocError>,
 ) -> Result<Tensor, AllocError>
     requires counted { counted sizes.now second.now ≡ true }
-    requires fits { fits_in sizes.now second.now bindings.old ≡ true }
-    requires exact { exact sizes.now second.now vars.old ≡ true }
-    ensures value { IfOk result (λ v. meant v ≡ from_rows (rows_of (meant first) ++ rows_of (tensor_in sizes.now second.now vars.old bindings.old))) }
+    requires fits { OnOk first (fits_in sizes.now second.now bindings.old ≡ true) }
+    requires exact { OnOk first (exact sizes.now second.now vars.old ≡ true) }
+    ensures value { IsOf (λ c v. meant v ≡ from_rows (rows_of (meant c) ++ rows_of (tensor_in sizes.now second.now vars.old bindings.old))) first result }
     ensures vars { OnOk result (vars.new ≡ vars.old) }
     ensures bindings { OnOk result (bindings.new ≡ bindings.old) }
 {
+    let first = first?;
     let second = evaluate(alloc, sizes, vars, bindings, second)?;
     concat(alloc, first, second)
 }
@@ -444,23 +472,15 @@ pub fn evaluate(
         Term::TVar(var) => variable(alloc, bindings, *var),
         Term::WordOf(x) => Ok(word_at(x, sizes, vars.as_slice())),
         Term::Index(e, x) => row(alloc, sizes, vars, bindings, e.get(), x),
-        Term::Gen(n, e) => {
-            let all = rows(alloc, sizes, vars, bindings, n, e.get())?;
-            Ok(Tensor::Row(all))
-        }
+        Term::Gen(n, e) => rows(alloc, sizes, vars, bindings, n, e.get()),
         Term::Sum(n, e) => sum(alloc, sizes, vars, bindings, n, e.get()),
         Term::Guard(c, e) => guarded(alloc, sizes, vars, bindings, c, e.get()),
         Term::Let(a, b) => {
-            let found = extents(alloc, sizes, bindings, a.get())?;
-            let value = evaluate(alloc, sizes, vars, bindings, a.get())?;
-            let definition = Binding {
-                extents: found,
-                value,
-            };
+            let definition = defined(alloc, sizes, vars, bindings, a.get());
             under(alloc, sizes, vars, bindings, b.get(), definition)
         }
         Term::Add(a, b) => {
-            let first = evaluate(alloc, sizes, vars, bindings, a.get())?;
+            let first = evaluate(alloc, sizes, vars, bindings, a.get());
             with_second(
                 alloc,
                 sizes,
@@ -472,7 +492,7 @@ pub fn evaluate(
             )
         }
         Term::Sub(a, b) => {
-            let first = evaluate(alloc, sizes, vars, bindings, a.get())?;
+            let first = evaluate(alloc, sizes, vars, bindings, a.get());
             with_second(
                 alloc,
                 sizes,
@@ -484,7 +504,7 @@ pub fn evaluate(
             )
         }
         Term::Mul(a, b) => {
-            let first = evaluate(alloc, sizes, vars, bindings, a.get())?;
+            let first = evaluate(alloc, sizes, vars, bindings, a.get());
             with_second(
                 alloc,
                 sizes,
@@ -496,7 +516,7 @@ pub fn evaluate(
             )
         }
         Term::Concat(a, b) => {
-            let first = evaluate(alloc, sizes, vars, bindings, a.get())?;
+            let first = evaluate(alloc, sizes, vars, bindings, a.get());
             followed_by(alloc, sizes, vars, bindings, b.get(), first)
         }
         Term::Flatten(e) => flattened(alloc, evaluate(alloc, sizes, vars, bindings, e.get())),

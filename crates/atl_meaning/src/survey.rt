@@ -250,19 +250,20 @@ fn like_first(
     vars: &mut Variables,
     shapes: &mut Stack<Items<Aff>>,
     second: &Term,
-    first: Found,
+    first: Result<Found, AllocError>,
 ) -> Result<Found, AllocError>
     requires floor { floor.now ≡ at_least_one sizes.now }
     requires sized { sized (length sizes.now) second.now ≡ true }
-    requires placed { placed (length sizes.now) second.now (length vars.old) ≡ true }
-    requires shapes { each_scoped (length sizes.now) shapes.old ≡ true }
-    requires first { extents_scoped (length sizes.now) first.extents ≡ true }
-    requires shaped { IsOk (shape_of second.now shapes.old) }
-    ensures found { IfOk result (λ found. found ≡ found_at sizes.now (first.extents) false (first_of first.big (surveyed sizes.now second.now vars.old shapes.old).big)) }
+    requires placed { OnOk first (placed (length sizes.now) second.now (length vars.old) ≡ true) }
+    requires shapes { OnOk first (each_scoped (length sizes.now) shapes.old ≡ true) }
+    requires first { IfOk first (λ f. extents_scoped (length sizes.now) f.extents ≡ true) }
+    requires shaped { OnOk first (IsOk (shape_of second.now shapes.old)) }
+    ensures found { IsMade (λ f. found_at sizes.now f.extents false (first_of f.big (surveyed sizes.now second.now vars.old shapes.old).big)) first result }
     ensures scoped { IfOk result (λ found. extents_scoped (length sizes.now) found.extents ≡ true) }
     ensures vars { OnOk result (vars.new ≡ vars.old) }
     ensures shapes { OnOk result (shapes.new ≡ shapes.old) }
 {
+    let first = first?;
     let other = survey(alloc, sizes, floor, vars, shapes, second)?;
     let big = first_of(first.big, other.big);
     Ok(at_node(sizes, floor, first.extents, false, big))
@@ -277,19 +278,20 @@ fn word_of_both(
     vars: &mut Variables,
     shapes: &mut Stack<Items<Aff>>,
     second: &Term,
-    first: Found,
+    first: Result<Found, AllocError>,
 ) -> Result<Found, AllocError>
     requires floor { floor.now ≡ at_least_one sizes.now }
     requires sized { sized (length sizes.now) second.now ≡ true }
-    requires placed { placed (length sizes.now) second.now (length vars.old) ≡ true }
-    requires shapes { each_scoped (length sizes.now) shapes.old ≡ true }
-    requires first { extents_scoped (length sizes.now) first.extents ≡ true }
-    requires shaped { IsOk (shape_of second.now shapes.old) }
-    ensures found { IfOk result (λ found. found ≡ found_at sizes.now ([]) false (first_of first.big (surveyed sizes.now second.now vars.old shapes.old).big)) }
+    requires placed { OnOk first (placed (length sizes.now) second.now (length vars.old) ≡ true) }
+    requires shapes { OnOk first (each_scoped (length sizes.now) shapes.old ≡ true) }
+    requires first { IfOk first (λ f. extents_scoped (length sizes.now) f.extents ≡ true) }
+    requires shaped { OnOk first (IsOk (shape_of second.now shapes.old)) }
+    ensures found { IsMade (λ f. found_at sizes.now [] false (first_of f.big (surveyed sizes.now second.now vars.old shapes.old).big)) first result }
     ensures scoped { IfOk result (λ found. extents_scoped (length sizes.now) found.extents ≡ true) }
     ensures vars { OnOk result (vars.new ≡ vars.old) }
     ensures shapes { OnOk result (shapes.new ≡ shapes.old) }
 {
+    let first = first?;
     let other = survey(alloc, sizes, floor, vars, shapes, second)?;
     let big = first_of(first.big, other.big);
     Ok(at_node(sizes, floor, Items::new(alloc), false, big))
@@ -304,20 +306,21 @@ fn concatenated_node(
     vars: &mut Variables,
     shapes: &mut Stack<Items<Aff>>,
     second: &Term,
-    first: Found,
+    first: Result<Found, AllocError>,
 ) -> Result<Found, AllocError>
     requires floor { floor.now ≡ at_least_one sizes.now }
     requires sized { sized (length sizes.now) second.now ≡ true }
-    requires placed { placed (length sizes.now) second.now (length vars.old) ≡ true }
-    requires shapes { each_scoped (length sizes.now) shapes.old ≡ true }
-    requires first { extents_scoped (length sizes.now) first.extents ≡ true }
-    requires shaped { IsOk (shape_of second.now shapes.old) }
-    requires within { each_within (concatenated_forms first.extents (surveyed sizes.now second.now vars.old shapes.old).extents) ≡ true }
-    ensures found { IfOk result (λ found. found ≡ found_at sizes.now (concatenated_forms first.extents (surveyed sizes.now second.now vars.old shapes.old).extents) false (first_of first.big (surveyed sizes.now second.now vars.old shapes.old).big)) }
+    requires placed { OnOk first (placed (length sizes.now) second.now (length vars.old) ≡ true) }
+    requires shapes { OnOk first (each_scoped (length sizes.now) shapes.old ≡ true) }
+    requires first { IfOk first (λ f. extents_scoped (length sizes.now) f.extents ≡ true) }
+    requires shaped { OnOk first (IsOk (shape_of second.now shapes.old)) }
+    requires within { IfOk first (λ f. each_within (concatenated_forms f.extents (surveyed sizes.now second.now vars.old shapes.old).extents) ≡ true) }
+    ensures found { IsMade (λ f. found_at sizes.now (concatenated_forms f.extents (surveyed sizes.now second.now vars.old shapes.old).extents) false (first_of f.big (surveyed sizes.now second.now vars.old shapes.old).big)) first result }
     ensures scoped { IfOk result (λ found. extents_scoped (length sizes.now) found.extents ≡ true) }
     ensures vars { OnOk result (vars.new ≡ vars.old) }
     ensures shapes { OnOk result (shapes.new ≡ shapes.old) }
 {
+    let first = first?;
     let other = survey(alloc, sizes, floor, vars, shapes, second)?;
     let big = first_of(first.big, other.big);
     let extents = concatenated(alloc, first.extents, other.extents)?;
@@ -333,19 +336,20 @@ fn under_definition(
     vars: &mut Variables,
     shapes: &mut Stack<Items<Aff>>,
     second: &Term,
-    first: Found,
+    first: Result<Found, AllocError>,
 ) -> Result<Found, AllocError>
     requires floor { floor.now ≡ at_least_one sizes.now }
     requires sized { sized (length sizes.now) second.now ≡ true }
-    requires placed { placed (length sizes.now) second.now (length vars.old) ≡ true }
-    requires shapes { each_scoped (length sizes.now) shapes.old ≡ true }
-    requires first { extents_scoped (length sizes.now) first.extents ≡ true }
-    requires shaped { IsOk (shape_of second.now (first.extents ∷ shapes.old)) }
-    ensures found { IfOk result (λ found. found ≡ under_found sizes.now first (surveyed sizes.now second.now vars.old (first.extents ∷ shapes.old))) }
+    requires placed { OnOk first (placed (length sizes.now) second.now (length vars.old) ≡ true) }
+    requires shapes { OnOk first (each_scoped (length sizes.now) shapes.old ≡ true) }
+    requires first { IfOk first (λ f. extents_scoped (length sizes.now) f.extents ≡ true) }
+    requires shaped { IfOk first (λ f. IsOk (shape_of second.now (f.extents ∷ shapes.old))) }
+    ensures found { IsMade (λ f. under_found sizes.now f (surveyed sizes.now second.now vars.old (f.extents ∷ shapes.old))) first result }
     ensures scoped { IfOk result (λ found. extents_scoped (length sizes.now) found.extents ≡ true) }
     ensures vars { OnOk result (vars.new ≡ vars.old) }
     ensures shapes { OnOk result (shapes.new ≡ shapes.old) }
 {
+    let first = first?;
     shapes.enter(first.extents)?;
     let body = survey(alloc, sizes, floor, vars, shapes, second)?;
     shapes.leave();
@@ -421,23 +425,23 @@ pub fn survey(
             )
         }
         Term::Let(a, b) => {
-            let first = survey(alloc, sizes, floor, vars, shapes, a.get())?;
+            let first = survey(alloc, sizes, floor, vars, shapes, a.get());
             under_definition(alloc, sizes, floor, vars, shapes, b.get(), first)
         }
         Term::Add(a, b) => {
-            let first = survey(alloc, sizes, floor, vars, shapes, a.get())?;
+            let first = survey(alloc, sizes, floor, vars, shapes, a.get());
             like_first(alloc, sizes, floor, vars, shapes, b.get(), first)
         }
         Term::Sub(a, b) => {
-            let first = survey(alloc, sizes, floor, vars, shapes, a.get())?;
+            let first = survey(alloc, sizes, floor, vars, shapes, a.get());
             like_first(alloc, sizes, floor, vars, shapes, b.get(), first)
         }
         Term::Mul(a, b) => {
-            let first = survey(alloc, sizes, floor, vars, shapes, a.get())?;
+            let first = survey(alloc, sizes, floor, vars, shapes, a.get());
             word_of_both(alloc, sizes, floor, vars, shapes, b.get(), first)
         }
         Term::Concat(a, b) => {
-            let first = survey(alloc, sizes, floor, vars, shapes, a.get())?;
+            let first = survey(alloc, sizes, floor, vars, shapes, a.get());
             concatenated_node(alloc, sizes, floor, vars, shapes, b.get(), first)
         }
         Term::Flatten(e) => flattened_node(

@@ -2,25 +2,29 @@ use Rattle.std.proofs.Common.{◌≡◌, ◌/◌, drop, ◌∙◌, ◌∷◌, �
 use Rattle.term_tree.specs.declared.term.Term.{Term}
 use Rattle.term_tree.specs.declared.term.Term.TheViews.{the_lemmas}
 use Rattle.affine_index.specs.Value.{items_value}
-use Rattle.std.proofs.lemmas.Result.{IfOk-weaker}
+use Rattle.std.proofs.lemmas.Result.{IfOk-at_ok, IfOk-weaker}
 use Rattle.term_tree.specs.Meaning.{chunks, columns, extent, extents_of, head_of, tail_of, word_of}
-use Rattle.term_tree.specs.Tensors.{Tensor, Word, copies, drop_last, from_rows, joined, plus_places, rows_of, tabulate, total, zeros}
+use Rattle.term_tree.specs.Tensors.{Tensor, Word, by_places, copies, drop_last, from_rows, joined, plus_places, rows_of, tabulate, total, zeros}
 use Rattle.atl_meaning.specs.Denoted.{body_in, denoted, extents_in, fits_in, scope, tensor_in}
 use Rattle.atl_meaning.specs.Lists.{rest_of}
 use Rattle.atl_meaning.specs.Exact.{counted, exact, exact_below}
 use Rattle.atl_meaning.specs.Values.{meant}
+use Rattle.atl_meaning.specs.Operations.{on_words}
+use Rattle.atl_meaning.specs.declared.binding.Binding.{Binding}
+use Rattle.atl_meaning.specs.declared.operation.Operation.TheVariants.{Plus, Minus, Times}
 use Rattle.atl_meaning.specs.declared.tensor.Tensor.{Tensor as Value}
 use Rattle.atl_meaning.proofs.CodeLaws.{counted-Flatten, exact-Flatten, counted-Guard, counted-Index, denoted-Gen, denoted-Sum, denoted-WordOf, exact-Guard}
 use Rattle.atl_meaning.proofs.CodeLaws.{exact-Index, exact-Let, counted-Let, exact-Add, counted-Add, exact-Sub, counted-Sub, exact-Mul, counted-Mul}
 use Rattle.atl_meaning.proofs.CodeLaws.{exact-Concat, counted-Concat, counted-Split, exact-Gen, exact-Sum, exact-TruncL, exact-TruncR, exact-PadL, exact-PadR}
+use Rattle.atl_meaning.proofs.CodeLaws.{counted-Transpose, exact-Split, exact-Transpose}
 use Rattle.atl_meaning.proofs.CodeLaws.{counted-Gen, counted-Sum, counted-TruncL, counted-TruncR, counted-PadL, counted-PadR}
 use Rattle.atl_meaning.proofs.ExactLaws.{below-at}
 use Rattle.atl_meaning.proofs.FitLaws.{fits-Index, fits-Gen, fits-Sum, fits-Guard, fits-Let, fits-Add, fits-Sub, fits-Mul, fits-Concat, fits-Flatten}
 use Rattle.atl_meaning.proofs.FitLaws.{fits-Split, fits-Transpose, fits-TruncL, fits-TruncR, fits-PadL, fits-PadR}
-use Rattle.atl_meaning.proofs.MadeLaws.{both-kept, of-kept, of-meant}
+use Rattle.atl_meaning.proofs.MadeLaws.{both-kept, of-both, of-definition, of-kept, of-meant, of-state}
+use Rattle.atl_meaning.proofs.TensorCode.{tensor-Let, tensor-Add, tensor-Sub, tensor-Mul, tensor-Concat}
 use Rattle.atl_meaning.proofs.TensorCode.{tensor-Flatten, tensor-Split, tensor-Transpose, tensor-TruncL, tensor-TruncR, tensor-PadL, tensor-PadR}
 use Rattle.atl_meaning.proofs.ListLaws.{map-last, tabulate-last, total-next}
-use Rattle.atl_meaning.proofs.ValueLaws.{meant-Row}
 use Rattle.atl_meaning.proofs.evaluate.+evaluate.Goals as goal
 
 pub rows-loop-i-preserved : goal.rows-loop-i-preserved
@@ -154,107 +158,11 @@ evaluate-returns-in-Sum-clause-value t c =
     let whole = ap (λ e. tensor_in s e r bs) c.in-Sum.is ∙ ap (λ d. d.tensor r (scope bs)) (denoted-Sum s c.in-Sum.n c.in-Sum.e) in
     subst (λ (x : Tensor). IfOk c.sum.result (λ v. meant v ≡ x)) (child ∙ sym whole) c.sum.ensures.value
 
-pub evaluate-under-requires : goal.evaluate-under-requires
-evaluate-under-requires t c =
-    let s = c.args.sizes.now in
-    let f = fits-Let s (extents_of (scope c.args.bindings.now)) c.args.term.now c.in-Let.a c.in-Let.b c.in-Let.is c.requires.fits in
-    let p = counted-Let s c.args.term.now c.in-Let.a c.in-Let.b c.in-Let.is c.requires.counted in
-    let q = exact-Let s c.args.term.now c.in-Let.a c.in-Let.b c.args.vars.now c.in-Let.is c.requires.exact in
-    let same : c.evaluate.new.vars ≡ c.args.vars.now = c.in_ok-value-in-Let.ensures.vars in
-    let found = c.in_ok-found-in-Let.ensures.extents ∙ ap (λ e. extents_in s e c.args.bindings.now) c.get-in-Let.ensures in
-    let kept : c.evaluate.new.bindings ≡ c.args.bindings.now = c.in_ok-value-in-Let.ensures.bindings ∙ c.in_ok-found-in-Let.ensures.bindings in
-    let then = (λ i. (denoted s (c.get-in-Let-3.ensures i)).fits (found i ∷ extents_of (scope (kept i)))) ∙ f.1 in
-    let later = subst (λ (r : List ℕ). exact s c.in-Let.b r ≡ true) (sym same) q.1 in (
-      search (rules, the_lemmas),
-      (
-        subst (λ (e : Term). counted s e ≡ true) (sym c.get-in-Let-3.ensures) p.1,
-        (then, subst (λ (e : Term). exact s e c.evaluate.new.vars ≡ true) (sym c.get-in-Let-3.ensures) later),
-      ),
-    )
-
-pub evaluate-with_second-requires : goal.evaluate-with_second-requires
-evaluate-with_second-requires t c =
-    let s = c.args.sizes.now in
-    let f = fits-Add s (extents_of (scope c.args.bindings.now)) c.args.term.now c.in-Add.a c.in-Add.b c.in-Add.is c.requires.fits in
-    let p = counted-Add s c.args.term.now c.in-Add.a c.in-Add.b c.in-Add.is c.requires.counted in
-    let q = exact-Add s c.args.term.now c.in-Add.a c.in-Add.b c.args.vars.now c.in-Add.is c.requires.exact in
-    let same : c.evaluate-in-Add.new.vars ≡ c.args.vars.now = c.in_ok-first-in-Add.ensures.vars in
-    let kept : c.evaluate-in-Add.new.bindings ≡ c.args.bindings.now = c.in_ok-first-in-Add.ensures.bindings in
-    let then = (λ i. fits_in s (c.get-in-Add-2.ensures i) (kept i)) ∙ f.1 in
-    let later = subst (λ (r : List ℕ). exact s c.in-Add.b r ≡ true) (sym same) q.1 in (
-      search (rules, the_lemmas),
-      (
-        subst (λ (e : Term). counted s e ≡ true) (sym c.get-in-Add-2.ensures) p.1,
-        (then, subst (λ (e : Term). exact s e c.evaluate-in-Add.new.vars ≡ true) (sym c.get-in-Add-2.ensures) later),
-      ),
-    )
-
-pub evaluate-with_second-requires-in-Sub : goal.evaluate-with_second-requires-in-Sub
-evaluate-with_second-requires-in-Sub t c =
-    let s = c.args.sizes.now in
-    let f = fits-Sub s (extents_of (scope c.args.bindings.now)) c.args.term.now c.in-Sub.a c.in-Sub.b c.in-Sub.is c.requires.fits in
-    let p = counted-Sub s c.args.term.now c.in-Sub.a c.in-Sub.b c.in-Sub.is c.requires.counted in
-    let q = exact-Sub s c.args.term.now c.in-Sub.a c.in-Sub.b c.args.vars.now c.in-Sub.is c.requires.exact in
-    let same : c.evaluate-in-Sub.new.vars ≡ c.args.vars.now = c.in_ok-first-in-Sub.ensures.vars in
-    let kept : c.evaluate-in-Sub.new.bindings ≡ c.args.bindings.now = c.in_ok-first-in-Sub.ensures.bindings in
-    let then = (λ i. fits_in s (c.get-in-Sub-2.ensures i) (kept i)) ∙ f.1 in
-    let later = subst (λ (r : List ℕ). exact s c.in-Sub.b r ≡ true) (sym same) q.1 in (
-      search (rules, the_lemmas),
-      (
-        subst (λ (e : Term). counted s e ≡ true) (sym c.get-in-Sub-2.ensures) p.1,
-        (then, subst (λ (e : Term). exact s e c.evaluate-in-Sub.new.vars ≡ true) (sym c.get-in-Sub-2.ensures) later),
-      ),
-    )
-
-pub evaluate-with_second-requires-in-Mul : goal.evaluate-with_second-requires-in-Mul
-evaluate-with_second-requires-in-Mul t c =
-    let s = c.args.sizes.now in
-    let f = fits-Mul s (extents_of (scope c.args.bindings.now)) c.args.term.now c.in-Mul.a c.in-Mul.b c.in-Mul.is c.requires.fits in
-    let p = counted-Mul s c.args.term.now c.in-Mul.a c.in-Mul.b c.in-Mul.is c.requires.counted in
-    let q = exact-Mul s c.args.term.now c.in-Mul.a c.in-Mul.b c.args.vars.now c.in-Mul.is c.requires.exact in
-    let same : c.evaluate-in-Mul.new.vars ≡ c.args.vars.now = c.in_ok-first-in-Mul.ensures.vars in
-    let kept : c.evaluate-in-Mul.new.bindings ≡ c.args.bindings.now = c.in_ok-first-in-Mul.ensures.bindings in
-    let then = (λ i. fits_in s (c.get-in-Mul-2.ensures i) (kept i)) ∙ f.1 in
-    let later = subst (λ (r : List ℕ). exact s c.in-Mul.b r ≡ true) (sym same) q.1 in (
-      search (rules, the_lemmas),
-      (
-        subst (λ (e : Term). counted s e ≡ true) (sym c.get-in-Mul-2.ensures) p.1,
-        (then, subst (λ (e : Term). exact s e c.evaluate-in-Mul.new.vars ≡ true) (sym c.get-in-Mul-2.ensures) later),
-      ),
-    )
-
-pub evaluate-followed_by-requires : goal.evaluate-followed_by-requires
-evaluate-followed_by-requires t c =
-    let s = c.args.sizes.now in
-    let f = fits-Concat s (extents_of (scope c.args.bindings.now)) c.args.term.now c.in-Concat.a c.in-Concat.b c.in-Concat.is c.requires.fits in
-    let p = counted-Concat s c.args.term.now c.in-Concat.a c.in-Concat.b c.in-Concat.is c.requires.counted in
-    let q = exact-Concat s c.args.term.now c.in-Concat.a c.in-Concat.b c.args.vars.now c.in-Concat.is c.requires.exact in
-    let same : c.evaluate-in-Concat.new.vars ≡ c.args.vars.now = c.in_ok-first-in-Concat.ensures.vars in
-    let kept : c.evaluate-in-Concat.new.bindings ≡ c.args.bindings.now = c.in_ok-first-in-Concat.ensures.bindings in
-    let then = (λ i. fits_in s (c.get-in-Concat-2.ensures i) (kept i)) ∙ f.0.1 in
-    let later = subst (λ (r : List ℕ). exact s c.in-Concat.b r ≡ true) (sym same) q.1 in (
-      search (rules, the_lemmas),
-      (
-        subst (λ (e : Term). counted s e ≡ true) (sym c.get-in-Concat-2.ensures) p.1,
-        (then, subst (λ (e : Term). exact s e c.evaluate-in-Concat.new.vars ≡ true) (sym c.get-in-Concat-2.ensures) later),
-      ),
-    )
-
 pub evaluate-chunked-requires-clause-counted : goal.evaluate-chunked-requires-clause-counted
 evaluate-chunked-requires-clause-counted t c =
     let s = c.args.sizes.now in
     let p = counted-Split s c.args.term.now c.in-Split.k c.in-Split.e c.in-Split.is c.requires.counted in
     subst (λ (e : Term). counted s e ≡ true) (sym c.get-in-Split-2.ensures) p.1
-
-pub evaluate-returns-in_ok-all-in-Gen-clause-value : goal.evaluate-returns-in_ok-all-in-Gen-clause-value
-evaluate-returns-in_ok-all-in-Gen-clause-value t c =
-    let s = c.args.sizes.now in
-    let r = c.args.vars.now in
-    let bs = c.args.bindings.now in
-    let k = extent c.in-Gen.n s in
-    let child = ap (λ e. tabulate k (body_in s e r bs)) c.get-in-Gen.ensures in
-    let whole = ap (λ e. tensor_in s e r bs) c.in-Gen.is ∙ ap (λ d. d.tensor r (scope bs)) (denoted-Gen s c.in-Gen.n c.in-Gen.e) in
-    meant-Row c.in_ok-all-in-Gen.all ∙ ap from_rows (c.in_ok-all-in-Gen.ensures.value ∙ child) ∙ sym whole
 
 pub summed-loop-left-preserved : goal.summed-loop-left-preserved
 summed-loop-left-preserved t c =
@@ -391,26 +299,22 @@ evaluate-padded_before-requires-clause-count t c = (counted-PadL c.args.sizes.no
 pub evaluate-padded_behind-requires-clause-count : goal.evaluate-padded_behind-requires-clause-count
 evaluate-padded_behind-requires-clause-count t c = (counted-PadR c.args.sizes.now c.args.term.now c.in-PadR.n c.in-PadR.e c.in-PadR.is c.requires.counted).0
 
-pub evaluate-evaluate-requires : goal.evaluate-evaluate-requires
-evaluate-evaluate-requires t c =
+pub evaluate-defined-definition-requires : goal.evaluate-defined-definition-requires
+evaluate-defined-definition-requires t c =
     let s = c.args.sizes.now in
     let f = fits-Let s (extents_of (scope c.args.bindings.now)) c.args.term.now c.in-Let.a c.in-Let.b c.in-Let.is c.requires.fits in
     let p = counted-Let s c.args.term.now c.in-Let.a c.in-Let.b c.in-Let.is c.requires.counted in
     let q = exact-Let s c.args.term.now c.in-Let.a c.in-Let.b c.args.vars.now c.in-Let.is c.requires.exact in
-    let child = sym c.get-in-Let-2.ensures in (
+    let child = sym c.get-in-Let.ensures in (
       search (rules, the_lemmas),
       (
         subst (λ (e : Term). counted s e ≡ true) child p.0,
-        (
-          (λ i. fits_in s (c.get-in-Let-2.ensures i) (c.in_ok-found-in-Let.ensures.bindings i))
-              ∙ f.0,
-          subst (λ (e : Term). exact s e c.args.vars.now ≡ true) child q.0,
-        ),
+        (subst (λ (e : Term). fits_in s e c.args.bindings.now ≡ true) child f.0, subst (λ (e : Term). exact s e c.args.vars.now ≡ true) child q.0),
       ),
     )
 
-pub evaluate-evaluate-requires-in-Add : goal.evaluate-evaluate-requires-in-Add
-evaluate-evaluate-requires-in-Add t c =
+pub evaluate-evaluate-first-requires : goal.evaluate-evaluate-first-requires
+evaluate-evaluate-first-requires t c =
     let s = c.args.sizes.now in
     let f = fits-Add s (extents_of (scope c.args.bindings.now)) c.args.term.now c.in-Add.a c.in-Add.b c.in-Add.is c.requires.fits in
     let p = counted-Add s c.args.term.now c.in-Add.a c.in-Add.b c.in-Add.is c.requires.counted in
@@ -423,8 +327,8 @@ evaluate-evaluate-requires-in-Add t c =
       ),
     )
 
-pub evaluate-evaluate-requires-in-Sub : goal.evaluate-evaluate-requires-in-Sub
-evaluate-evaluate-requires-in-Sub t c =
+pub evaluate-evaluate-first-requires-in-Sub : goal.evaluate-evaluate-first-requires-in-Sub
+evaluate-evaluate-first-requires-in-Sub t c =
     let s = c.args.sizes.now in
     let f = fits-Sub s (extents_of (scope c.args.bindings.now)) c.args.term.now c.in-Sub.a c.in-Sub.b c.in-Sub.is c.requires.fits in
     let p = counted-Sub s c.args.term.now c.in-Sub.a c.in-Sub.b c.in-Sub.is c.requires.counted in
@@ -437,8 +341,8 @@ evaluate-evaluate-requires-in-Sub t c =
       ),
     )
 
-pub evaluate-evaluate-requires-in-Mul : goal.evaluate-evaluate-requires-in-Mul
-evaluate-evaluate-requires-in-Mul t c =
+pub evaluate-evaluate-first-requires-in-Mul : goal.evaluate-evaluate-first-requires-in-Mul
+evaluate-evaluate-first-requires-in-Mul t c =
     let s = c.args.sizes.now in
     let f = fits-Mul s (extents_of (scope c.args.bindings.now)) c.args.term.now c.in-Mul.a c.in-Mul.b c.in-Mul.is c.requires.fits in
     let p = counted-Mul s c.args.term.now c.in-Mul.a c.in-Mul.b c.in-Mul.is c.requires.counted in
@@ -451,8 +355,8 @@ evaluate-evaluate-requires-in-Mul t c =
       ),
     )
 
-pub evaluate-evaluate-requires-in-Concat : goal.evaluate-evaluate-requires-in-Concat
-evaluate-evaluate-requires-in-Concat t c =
+pub evaluate-evaluate-first-requires-in-Concat : goal.evaluate-evaluate-first-requires-in-Concat
+evaluate-evaluate-first-requires-in-Concat t c =
     let s = c.args.sizes.now in
     let f = fits-Concat s (extents_of (scope c.args.bindings.now)) c.args.term.now c.in-Concat.a c.in-Concat.b c.in-Concat.is c.requires.fits in
     let p = counted-Concat s c.args.term.now c.in-Concat.a c.in-Concat.b c.in-Concat.is c.requires.counted in
@@ -473,14 +377,8 @@ evaluate-returns-in-WordOf-clause-value t c =
     c.word_at.ensures ∙ ap (λ v. Word (word_of (items_value s v c.in-WordOf.x))) c.as_slice.ensures
     ∙ sym (ap (λ e. tensor_in s e r bs) c.in-WordOf.is ∙ ap (λ d. d.tensor r (scope bs)) (denoted-WordOf s c.in-WordOf.x))
 
-pub evaluate-extents-requires-clause-fits : goal.evaluate-extents-requires-clause-fits
-evaluate-extents-requires-clause-fits t c =
-    let s = c.args.sizes.now in
-    let f = fits-Let s (extents_of (scope c.args.bindings.now)) c.args.term.now c.in-Let.a c.in-Let.b c.in-Let.is c.requires.fits in
-    ap (λ e. fits_in s e c.args.bindings.now) c.get-in-Let.ensures ∙ f.0
-
-pub evaluate-evaluate-requires-in-Flatten : goal.evaluate-evaluate-requires-in-Flatten
-evaluate-evaluate-requires-in-Flatten t c =
+pub evaluate-evaluate-requires : goal.evaluate-evaluate-requires
+evaluate-evaluate-requires t c =
     let s = c.args.sizes.now in
     let f = fits-Flatten s (extents_of (scope c.args.bindings.now)) c.args.term.now c.in-Flatten.e c.in-Flatten.is c.requires.fits in
     let p = counted-Flatten s c.args.term.now c.in-Flatten.e c.in-Flatten.is c.requires.counted in
@@ -498,24 +396,24 @@ evaluate-returns-in-Flatten-clause-value t c =
     let s = c.args.sizes.now in
     let r = c.args.vars.now in
     let bs = c.args.bindings.now in
-    let child : IfOk c.evaluate-in-Flatten.result (λ v. meant v ≡ (tensor_in s c.in-Flatten.e r bs)) =
-    subst (λ (e : Term). IfOk c.evaluate-in-Flatten.result (λ v. meant v ≡ tensor_in s e r bs)) c.get-in-Flatten.ensures c.evaluate-in-Flatten.ensures.value
+    let child : IfOk c.evaluate.result (λ v. meant v ≡ (tensor_in s c.in-Flatten.e r bs)) =
+    subst (λ (e : Term). IfOk c.evaluate.result (λ v. meant v ≡ tensor_in s e r bs)) c.get-in-Flatten.ensures c.evaluate.ensures.value
     in
-    let made = of-meant (λ bs t. from_rows (joined (rows_of t))) c.evaluate-in-Flatten.new.bindings bs c.evaluate-in-Flatten.result c.flattened.result
-    (tensor_in s c.in-Flatten.e r bs) c.flattened.ensures c.evaluate-in-Flatten.ensures.bindings child in
+    let made = of-meant (λ bs t. from_rows (joined (rows_of t))) c.evaluate.new.bindings bs c.evaluate.result c.flattened.result
+    (tensor_in s c.in-Flatten.e r bs) c.flattened.ensures c.evaluate.ensures.bindings child in
     subst (λ (y : Tensor). IfOk c.flattened.result (λ v. meant v ≡ y)) (sym (tensor-Flatten s r (scope bs) c.args.term.now c.in-Flatten.e c.in-Flatten.is)) made
 
 pub evaluate-returns-in-Flatten-clause-vars : goal.evaluate-returns-in-Flatten-clause-vars
 evaluate-returns-in-Flatten-clause-vars t c =
     let s = c.args.sizes.now in
-    of-kept (λ (d : Value). λ (v : Value). meant v ≡ from_rows (joined (rows_of (meant d)))) (c.evaluate-in-Flatten.new.vars ≡ c.args.vars.now)
-    c.evaluate-in-Flatten.result c.flattened.result c.flattened.ensures c.evaluate-in-Flatten.ensures.vars
+    of-kept (λ (d : Value). λ (v : Value). meant v ≡ from_rows (joined (rows_of (meant d)))) (c.evaluate.new.vars ≡ c.args.vars.now)
+    c.evaluate.result c.flattened.result c.flattened.ensures c.evaluate.ensures.vars
 
 pub evaluate-returns-in-Flatten-clause-bindings : goal.evaluate-returns-in-Flatten-clause-bindings
 evaluate-returns-in-Flatten-clause-bindings t c =
     let s = c.args.sizes.now in
-    of-kept (λ (d : Value). λ (v : Value). meant v ≡ from_rows (joined (rows_of (meant d)))) (c.evaluate-in-Flatten.new.bindings ≡ c.args.bindings.now)
-    c.evaluate-in-Flatten.result c.flattened.result c.flattened.ensures c.evaluate-in-Flatten.ensures.bindings
+    of-kept (λ (d : Value). λ (v : Value). meant v ≡ from_rows (joined (rows_of (meant d)))) (c.evaluate.new.bindings ≡ c.args.bindings.now)
+    c.evaluate.result c.flattened.result c.flattened.ensures c.evaluate.ensures.bindings
 
 pub evaluate-returns-in-Split-clause-value : goal.evaluate-returns-in-Split-clause-value
 evaluate-returns-in-Split-clause-value t c =
@@ -733,3 +631,358 @@ evaluate-padded_behind-requires-clause-fits t c =
     (λ v kept. (λ i. fits_in s (c.get-in-PadR-2.ensures i) (kept i))
     ∙ (fits-PadR s (extents_of (scope c.args.bindings.now)) c.args.term.now c.in-PadR.n c.in-PadR.e c.in-PadR.is c.requires.fits).0)
     c.evaluate-in-PadR.ensures.bindings
+
+pub evaluate-with_second-requires : goal.evaluate-with_second-requires
+evaluate-with_second-requires t c =
+    let s = c.args.sizes.now in
+    let f = fits-Add s (extents_of (scope c.args.bindings.now)) c.args.term.now c.in-Add.a c.in-Add.b c.in-Add.is c.requires.fits in
+    let p = counted-Add s c.args.term.now c.in-Add.a c.in-Add.b c.in-Add.is c.requires.counted in
+    let q = exact-Add s c.args.term.now c.in-Add.a c.in-Add.b c.args.vars.now c.in-Add.is c.requires.exact in (
+      search (rules, the_lemmas),
+      (
+        subst (λ (e : Term). counted s e ≡ true) (sym c.get-in-Add-2.ensures) p.1,
+        (
+          IfOk-weaker c.evaluate-first.result _ _ (λ v kept. (λ i. fits_in s (c.get-in-Add-2.ensures i) (kept i)) ∙ f.1) c.evaluate-first.ensures.bindings,
+          IfOk-weaker c.evaluate-first.result _ _ (λ v kept. (λ i. exact s (c.get-in-Add-2.ensures i) (kept i)) ∙ q.1) c.evaluate-first.ensures.vars,
+        ),
+      ),
+    )
+
+pub evaluate-returns-in-Add-clause-value : goal.evaluate-returns-in-Add-clause-value
+evaluate-returns-in-Add-clause-value t c =
+    let s = c.args.sizes.now in
+    let r = c.args.vars.now in
+    let bs = c.args.bindings.now in
+    let e = c.get-in-Add-2.result.now in
+    let x = tensor_in s c.in-Add.a r bs in
+    let child : IfOk c.evaluate-first.result (λ v. meant v ≡ x) =
+    subst (λ (e : Term). IfOk c.evaluate-first.result (λ v. meant v ≡ tensor_in s e r bs)) c.get-in-Add.ensures c.evaluate-first.ensures.value in
+    let kept = of-state (λ (r : List ℕ). λ (d : Value). λ (v : Value). meant v ≡ by_places (on_words Plus) (meant d)
+    (tensor_in s e r c.evaluate-first.new.bindings))
+    c.evaluate-first.new.vars r c.evaluate-first.result c.with_second.result c.with_second.ensures.value c.evaluate-first.ensures.vars in
+    let made = of-meant (λ bs t. by_places (on_words Plus) t (tensor_in s e r bs)) c.evaluate-first.new.bindings bs c.evaluate-first.result
+    c.with_second.result x kept
+    c.evaluate-first.ensures.bindings child in
+    subst (λ (y : Tensor). IfOk c.with_second.result (λ v. meant v ≡ y))
+    (ap (λ e. by_places (on_words Plus) x (tensor_in s e r bs)) c.get-in-Add-2.ensures ∙ sym
+    (tensor-Add s r (scope bs) c.args.term.now c.in-Add.a c.in-Add.b c.in-Add.is)) made
+
+pub evaluate-returns-in-Add-clause-vars : goal.evaluate-returns-in-Add-clause-vars
+evaluate-returns-in-Add-clause-vars t c =
+    let s = c.args.sizes.now in
+    both-kept c.with_second.result c.with_second.new.vars c.evaluate-first.new.vars c.args.vars.now c.with_second.ensures.vars
+    (of-kept (λ (d : Value). λ (v : Value). meant v ≡ by_places (on_words Plus) (meant d)
+    (tensor_in s c.get-in-Add-2.result.now c.evaluate-first.new.vars c.evaluate-first.new.bindings))
+    (c.evaluate-first.new.vars ≡ c.args.vars.now) c.evaluate-first.result c.with_second.result c.with_second.ensures.value c.evaluate-first.ensures.vars)
+
+pub evaluate-returns-in-Add-clause-bindings : goal.evaluate-returns-in-Add-clause-bindings
+evaluate-returns-in-Add-clause-bindings t c =
+    let s = c.args.sizes.now in
+    both-kept c.with_second.result c.with_second.new.bindings c.evaluate-first.new.bindings c.args.bindings.now c.with_second.ensures.bindings
+    (of-kept (λ (d : Value). λ (v : Value). meant v ≡ by_places (on_words Plus) (meant d)
+    (tensor_in s c.get-in-Add-2.result.now c.evaluate-first.new.vars c.evaluate-first.new.bindings))
+    (c.evaluate-first.new.bindings ≡ c.args.bindings.now) c.evaluate-first.result c.with_second.result c.with_second.ensures.value
+    c.evaluate-first.ensures.bindings)
+
+pub evaluate-with_second-requires-in-Sub : goal.evaluate-with_second-requires-in-Sub
+evaluate-with_second-requires-in-Sub t c =
+    let s = c.args.sizes.now in
+    let f = fits-Sub s (extents_of (scope c.args.bindings.now)) c.args.term.now c.in-Sub.a c.in-Sub.b c.in-Sub.is c.requires.fits in
+    let p = counted-Sub s c.args.term.now c.in-Sub.a c.in-Sub.b c.in-Sub.is c.requires.counted in
+    let q = exact-Sub s c.args.term.now c.in-Sub.a c.in-Sub.b c.args.vars.now c.in-Sub.is c.requires.exact in (
+      search (rules, the_lemmas),
+      (
+        subst (λ (e : Term). counted s e ≡ true) (sym c.get-in-Sub-2.ensures) p.1,
+        (
+          IfOk-weaker c.evaluate-first-in-Sub.result _ _ (λ v kept. (λ i. fits_in s (c.get-in-Sub-2.ensures i) (kept i)) ∙ f.1)
+              c.evaluate-first-in-Sub.ensures.bindings,
+          IfOk-weaker c.evaluate-first-in-Sub.result _ _ (λ v kept. (λ i. exact s (c.get-in-Sub-2.ensures i) (kept i)) ∙ q.1)
+              c.evaluate-first-in-Sub.ensures.vars,
+        ),
+      ),
+    )
+
+pub evaluate-returns-in-Sub-clause-value : goal.evaluate-returns-in-Sub-clause-value
+evaluate-returns-in-Sub-clause-value t c =
+    let s = c.args.sizes.now in
+    let r = c.args.vars.now in
+    let bs = c.args.bindings.now in
+    let e = c.get-in-Sub-2.result.now in
+    let x = tensor_in s c.in-Sub.a r bs in
+    let child : IfOk c.evaluate-first-in-Sub.result (λ v. meant v ≡ x) =
+    subst (λ (e : Term). IfOk c.evaluate-first-in-Sub.result (λ v. meant v ≡ tensor_in s e r bs)) c.get-in-Sub.ensures c.evaluate-first-in-Sub.ensures.value in
+    let kept = of-state (λ (r : List ℕ). λ (d : Value). λ (v : Value). meant v ≡ by_places (on_words Minus) (meant d)
+    (tensor_in s e r c.evaluate-first-in-Sub.new.bindings))
+    c.evaluate-first-in-Sub.new.vars r c.evaluate-first-in-Sub.result c.with_second-in-Sub.result c.with_second-in-Sub.ensures.value
+    c.evaluate-first-in-Sub.ensures.vars in
+    let made = of-meant (λ bs t. by_places (on_words Minus) t (tensor_in s e r bs)) c.evaluate-first-in-Sub.new.bindings bs c.evaluate-first-in-Sub.result
+    c.with_second-in-Sub.result x kept
+    c.evaluate-first-in-Sub.ensures.bindings child in
+    subst (λ (y : Tensor). IfOk c.with_second-in-Sub.result (λ v. meant v ≡ y))
+    (ap (λ e. by_places (on_words Minus) x (tensor_in s e r bs)) c.get-in-Sub-2.ensures ∙ sym
+    (tensor-Sub s r (scope bs) c.args.term.now c.in-Sub.a c.in-Sub.b c.in-Sub.is)) made
+
+pub evaluate-returns-in-Sub-clause-vars : goal.evaluate-returns-in-Sub-clause-vars
+evaluate-returns-in-Sub-clause-vars t c =
+    let s = c.args.sizes.now in
+    both-kept c.with_second-in-Sub.result c.with_second-in-Sub.new.vars c.evaluate-first-in-Sub.new.vars c.args.vars.now c.with_second-in-Sub.ensures.vars
+    (of-kept (λ (d : Value). λ (v : Value). meant v ≡ by_places (on_words Minus) (meant d)
+    (tensor_in s c.get-in-Sub-2.result.now c.evaluate-first-in-Sub.new.vars c.evaluate-first-in-Sub.new.bindings))
+    (c.evaluate-first-in-Sub.new.vars ≡ c.args.vars.now) c.evaluate-first-in-Sub.result c.with_second-in-Sub.result c.with_second-in-Sub.ensures.value
+    c.evaluate-first-in-Sub.ensures.vars)
+
+pub evaluate-returns-in-Sub-clause-bindings : goal.evaluate-returns-in-Sub-clause-bindings
+evaluate-returns-in-Sub-clause-bindings t c =
+    let s = c.args.sizes.now in
+    both-kept c.with_second-in-Sub.result c.with_second-in-Sub.new.bindings c.evaluate-first-in-Sub.new.bindings c.args.bindings.now
+    c.with_second-in-Sub.ensures.bindings
+    (of-kept (λ (d : Value). λ (v : Value). meant v ≡ by_places (on_words Minus) (meant d)
+    (tensor_in s c.get-in-Sub-2.result.now c.evaluate-first-in-Sub.new.vars c.evaluate-first-in-Sub.new.bindings))
+    (c.evaluate-first-in-Sub.new.bindings ≡ c.args.bindings.now) c.evaluate-first-in-Sub.result c.with_second-in-Sub.result
+    c.with_second-in-Sub.ensures.value c.evaluate-first-in-Sub.ensures.bindings)
+
+pub evaluate-with_second-requires-in-Mul : goal.evaluate-with_second-requires-in-Mul
+evaluate-with_second-requires-in-Mul t c =
+    let s = c.args.sizes.now in
+    let f = fits-Mul s (extents_of (scope c.args.bindings.now)) c.args.term.now c.in-Mul.a c.in-Mul.b c.in-Mul.is c.requires.fits in
+    let p = counted-Mul s c.args.term.now c.in-Mul.a c.in-Mul.b c.in-Mul.is c.requires.counted in
+    let q = exact-Mul s c.args.term.now c.in-Mul.a c.in-Mul.b c.args.vars.now c.in-Mul.is c.requires.exact in (
+      search (rules, the_lemmas),
+      (
+        subst (λ (e : Term). counted s e ≡ true) (sym c.get-in-Mul-2.ensures) p.1,
+        (
+          IfOk-weaker c.evaluate-first-in-Mul.result _ _ (λ v kept. (λ i. fits_in s (c.get-in-Mul-2.ensures i) (kept i)) ∙ f.1)
+              c.evaluate-first-in-Mul.ensures.bindings,
+          IfOk-weaker c.evaluate-first-in-Mul.result _ _ (λ v kept. (λ i. exact s (c.get-in-Mul-2.ensures i) (kept i)) ∙ q.1)
+              c.evaluate-first-in-Mul.ensures.vars,
+        ),
+      ),
+    )
+
+pub evaluate-returns-in-Mul-clause-value : goal.evaluate-returns-in-Mul-clause-value
+evaluate-returns-in-Mul-clause-value t c =
+    let s = c.args.sizes.now in
+    let r = c.args.vars.now in
+    let bs = c.args.bindings.now in
+    let e = c.get-in-Mul-2.result.now in
+    let x = tensor_in s c.in-Mul.a r bs in
+    let child : IfOk c.evaluate-first-in-Mul.result (λ v. meant v ≡ x) =
+    subst (λ (e : Term). IfOk c.evaluate-first-in-Mul.result (λ v. meant v ≡ tensor_in s e r bs)) c.get-in-Mul.ensures c.evaluate-first-in-Mul.ensures.value in
+    let kept = of-state (λ (r : List ℕ). λ (d : Value). λ (v : Value). meant v ≡ by_places (on_words Times) (meant d)
+    (tensor_in s e r c.evaluate-first-in-Mul.new.bindings))
+    c.evaluate-first-in-Mul.new.vars r c.evaluate-first-in-Mul.result c.with_second-in-Mul.result c.with_second-in-Mul.ensures.value
+    c.evaluate-first-in-Mul.ensures.vars in
+    let made = of-meant (λ bs t. by_places (on_words Times) t (tensor_in s e r bs)) c.evaluate-first-in-Mul.new.bindings bs c.evaluate-first-in-Mul.result
+    c.with_second-in-Mul.result x kept
+    c.evaluate-first-in-Mul.ensures.bindings child in
+    subst (λ (y : Tensor). IfOk c.with_second-in-Mul.result (λ v. meant v ≡ y))
+    (ap (λ e. by_places (on_words Times) x (tensor_in s e r bs)) c.get-in-Mul-2.ensures ∙ sym
+    (tensor-Mul s r (scope bs) c.args.term.now c.in-Mul.a c.in-Mul.b c.in-Mul.is)) made
+
+pub evaluate-returns-in-Mul-clause-vars : goal.evaluate-returns-in-Mul-clause-vars
+evaluate-returns-in-Mul-clause-vars t c =
+    let s = c.args.sizes.now in
+    both-kept c.with_second-in-Mul.result c.with_second-in-Mul.new.vars c.evaluate-first-in-Mul.new.vars c.args.vars.now c.with_second-in-Mul.ensures.vars
+    (of-kept (λ (d : Value). λ (v : Value). meant v ≡ by_places (on_words Times) (meant d)
+    (tensor_in s c.get-in-Mul-2.result.now c.evaluate-first-in-Mul.new.vars c.evaluate-first-in-Mul.new.bindings))
+    (c.evaluate-first-in-Mul.new.vars ≡ c.args.vars.now) c.evaluate-first-in-Mul.result c.with_second-in-Mul.result c.with_second-in-Mul.ensures.value
+    c.evaluate-first-in-Mul.ensures.vars)
+
+pub evaluate-returns-in-Mul-clause-bindings : goal.evaluate-returns-in-Mul-clause-bindings
+evaluate-returns-in-Mul-clause-bindings t c =
+    let s = c.args.sizes.now in
+    both-kept c.with_second-in-Mul.result c.with_second-in-Mul.new.bindings c.evaluate-first-in-Mul.new.bindings c.args.bindings.now
+    c.with_second-in-Mul.ensures.bindings
+    (of-kept (λ (d : Value). λ (v : Value). meant v ≡ by_places (on_words Times) (meant d)
+    (tensor_in s c.get-in-Mul-2.result.now c.evaluate-first-in-Mul.new.vars c.evaluate-first-in-Mul.new.bindings))
+    (c.evaluate-first-in-Mul.new.bindings ≡ c.args.bindings.now) c.evaluate-first-in-Mul.result c.with_second-in-Mul.result
+    c.with_second-in-Mul.ensures.value c.evaluate-first-in-Mul.ensures.bindings)
+
+pub evaluate-followed_by-requires : goal.evaluate-followed_by-requires
+evaluate-followed_by-requires t c =
+    let s = c.args.sizes.now in
+    let f = fits-Concat s (extents_of (scope c.args.bindings.now)) c.args.term.now c.in-Concat.a c.in-Concat.b c.in-Concat.is c.requires.fits in
+    let p = counted-Concat s c.args.term.now c.in-Concat.a c.in-Concat.b c.in-Concat.is c.requires.counted in
+    let q = exact-Concat s c.args.term.now c.in-Concat.a c.in-Concat.b c.args.vars.now c.in-Concat.is c.requires.exact in (
+      search (rules, the_lemmas),
+      (
+        subst (λ (e : Term). counted s e ≡ true) (sym c.get-in-Concat-2.ensures) p.1,
+        (
+          IfOk-weaker c.evaluate-first-in-Concat.result _ _ (λ v kept. (λ i. fits_in s (c.get-in-Concat-2.ensures i) (kept i)) ∙ f.0.1)
+              c.evaluate-first-in-Concat.ensures.bindings,
+          IfOk-weaker c.evaluate-first-in-Concat.result _ _ (λ v kept. (λ i. exact s (c.get-in-Concat-2.ensures i) (kept i)) ∙ q.1)
+              c.evaluate-first-in-Concat.ensures.vars,
+        ),
+      ),
+    )
+
+pub evaluate-returns-in-Concat-clause-value : goal.evaluate-returns-in-Concat-clause-value
+evaluate-returns-in-Concat-clause-value t c =
+    let s = c.args.sizes.now in
+    let r = c.args.vars.now in
+    let bs = c.args.bindings.now in
+    let e = c.get-in-Concat-2.result.now in
+    let x = tensor_in s c.in-Concat.a r bs in
+    let child : IfOk c.evaluate-first-in-Concat.result (λ v. meant v ≡ x) =
+    subst (λ (e : Term). IfOk c.evaluate-first-in-Concat.result (λ v. meant v ≡ tensor_in s e r bs)) c.get-in-Concat.ensures
+    c.evaluate-first-in-Concat.ensures.value in
+    let kept = of-state (λ (r : List ℕ). λ (d : Value). λ (v : Value). meant v ≡ from_rows
+    (rows_of (meant d) ++ rows_of (tensor_in s e r c.evaluate-first-in-Concat.new.bindings)))
+    c.evaluate-first-in-Concat.new.vars r c.evaluate-first-in-Concat.result c.followed_by.result c.followed_by.ensures.value
+    c.evaluate-first-in-Concat.ensures.vars in
+    let made = of-meant (λ bs t. from_rows (rows_of t ++ rows_of (tensor_in s e r bs))) c.evaluate-first-in-Concat.new.bindings bs
+    c.evaluate-first-in-Concat.result c.followed_by.result x kept
+    c.evaluate-first-in-Concat.ensures.bindings child in
+    subst (λ (y : Tensor). IfOk c.followed_by.result (λ v. meant v ≡ y))
+    (ap (λ e. from_rows (rows_of x ++ rows_of (tensor_in s e r bs))) c.get-in-Concat-2.ensures ∙ sym
+    (tensor-Concat s r (scope bs) c.args.term.now c.in-Concat.a c.in-Concat.b c.in-Concat.is)) made
+
+pub evaluate-returns-in-Concat-clause-vars : goal.evaluate-returns-in-Concat-clause-vars
+evaluate-returns-in-Concat-clause-vars t c =
+    let s = c.args.sizes.now in
+    both-kept c.followed_by.result c.followed_by.new.vars c.evaluate-first-in-Concat.new.vars c.args.vars.now c.followed_by.ensures.vars
+    (of-kept (λ (d : Value). λ (v : Value). meant v ≡ from_rows (rows_of (meant d) ++ rows_of
+    (tensor_in s c.get-in-Concat-2.result.now c.evaluate-first-in-Concat.new.vars c.evaluate-first-in-Concat.new.bindings)))
+    (c.evaluate-first-in-Concat.new.vars ≡ c.args.vars.now) c.evaluate-first-in-Concat.result c.followed_by.result c.followed_by.ensures.value
+    c.evaluate-first-in-Concat.ensures.vars)
+
+pub evaluate-returns-in-Concat-clause-bindings : goal.evaluate-returns-in-Concat-clause-bindings
+evaluate-returns-in-Concat-clause-bindings t c =
+    let s = c.args.sizes.now in
+    both-kept c.followed_by.result c.followed_by.new.bindings c.evaluate-first-in-Concat.new.bindings c.args.bindings.now c.followed_by.ensures.bindings
+    (of-kept (λ (d : Value). λ (v : Value). meant v ≡ from_rows (rows_of (meant d) ++ rows_of
+    (tensor_in s c.get-in-Concat-2.result.now c.evaluate-first-in-Concat.new.vars c.evaluate-first-in-Concat.new.bindings)))
+    (c.evaluate-first-in-Concat.new.bindings ≡ c.args.bindings.now) c.evaluate-first-in-Concat.result c.followed_by.result c.followed_by.ensures.value
+    c.evaluate-first-in-Concat.ensures.bindings)
+
+pub evaluate-under-requires : goal.evaluate-under-requires
+evaluate-under-requires t c =
+    let s = c.args.sizes.now in
+    let bs = c.args.bindings.now in
+    let f = fits-Let s (extents_of (scope bs)) c.args.term.now c.in-Let.a c.in-Let.b c.in-Let.is c.requires.fits in
+    let p = counted-Let s c.args.term.now c.in-Let.a c.in-Let.b c.in-Let.is c.requires.counted in
+    let q = exact-Let s c.args.term.now c.in-Let.a c.in-Let.b c.args.vars.now c.in-Let.is c.requires.exact in
+    let found = ap (λ e. extents_in s e bs) c.get-in-Let.ensures in (
+      search (rules, the_lemmas),
+      (
+        subst (λ (e : Term). counted s e ≡ true) (sym c.get-in-Let-2.ensures) p.1,
+        (
+          of-both (λ (d : Binding). d.extents ≡ extents_in s c.get-in-Let.result.now bs) (λ (_ : Binding). c.defined-definition.new.bindings ≡ bs)
+              (λ (d : Binding). fits_in s c.get-in-Let-2.result.now (d ∷ c.defined-definition.new.bindings) ≡ true) c.defined-definition.result
+              (λ d same kept. (λ i. (denoted s (c.get-in-Let-2.ensures i)).fits ((same ∙ found) i ∷ extents_of (scope (kept i)))) ∙ f.1)
+              c.defined-definition.ensures.extents c.defined-definition.ensures.bindings,
+          IfOk-weaker c.defined-definition.result _ _ (λ v kept. (λ i. exact s (c.get-in-Let-2.ensures i) (kept i)) ∙ q.1) c.defined-definition.ensures.vars,
+        ),
+      ),
+    )
+
+pub evaluate-returns-in-Let-clause-value : goal.evaluate-returns-in-Let-clause-value
+evaluate-returns-in-Let-clause-value t c =
+    let s = c.args.sizes.now in
+    let r = c.args.vars.now in
+    let bs = c.args.bindings.now in
+    let e = c.get-in-Let-2.result.now in
+    let ds = extents_in s c.in-Let.a bs in
+    let x = tensor_in s c.in-Let.a r bs in
+    let extents : IfOk c.defined-definition.result (λ d. d.extents ≡ ds) =
+    subst (λ (e : Term). IfOk c.defined-definition.result (λ d. d.extents ≡ extents_in s e bs)) c.get-in-Let.ensures c.defined-definition.ensures.extents in
+    let child : IfOk c.defined-definition.result (λ d. meant d.value ≡ x) =
+    subst (λ (e : Term). IfOk c.defined-definition.result (λ d. meant d.value ≡ tensor_in s e r bs)) c.get-in-Let.ensures c.defined-definition.ensures.value in
+    let vars = of-state (λ (r : List ℕ). λ (d : Binding). λ (v : Value). meant v ≡ tensor_in s e r (d ∷ c.defined-definition.new.bindings))
+    c.defined-definition.new.vars r c.defined-definition.result c.under.result c.under.ensures.value c.defined-definition.ensures.vars in
+    let kept = of-state (λ (bs : List Binding). λ (d : Binding). λ (v : Value). meant v ≡ tensor_in s e r (d ∷ bs))
+    c.defined-definition.new.bindings bs c.defined-definition.result c.under.result vars c.defined-definition.ensures.bindings in
+    let made = of-definition (λ ds t. (denoted s e).tensor r ((ds, t) ∷ scope bs)) c.defined-definition.result c.under.result ds x kept extents child in
+    subst (λ (y : Tensor). IfOk c.under.result (λ v. meant v ≡ y))
+    (ap (λ e. (denoted s e).tensor r ((ds, x) ∷ scope bs)) c.get-in-Let-2.ensures
+    ∙ sym (tensor-Let s r (scope bs) c.args.term.now c.in-Let.a c.in-Let.b c.in-Let.is)) made
+
+pub evaluate-returns-in-Let-clause-vars : goal.evaluate-returns-in-Let-clause-vars
+evaluate-returns-in-Let-clause-vars t c =
+    both-kept c.under.result c.under.new.vars c.defined-definition.new.vars c.args.vars.now c.under.ensures.vars
+    (of-kept (λ (d : Binding). λ (v : Value). meant v ≡ tensor_in c.args.sizes.now c.get-in-Let-2.result.now c.defined-definition.new.vars
+    (d ∷ c.defined-definition.new.bindings))
+    (c.defined-definition.new.vars ≡ c.args.vars.now) c.defined-definition.result c.under.result c.under.ensures.value c.defined-definition.ensures.vars)
+
+pub evaluate-returns-in-Let-clause-bindings : goal.evaluate-returns-in-Let-clause-bindings
+evaluate-returns-in-Let-clause-bindings t c =
+    both-kept c.under.result c.under.new.bindings c.defined-definition.new.bindings c.args.bindings.now c.under.ensures.bindings
+    (of-kept (λ (d : Binding). λ (v : Value). meant v ≡ tensor_in c.args.sizes.now c.get-in-Let-2.result.now c.defined-definition.new.vars
+    (d ∷ c.defined-definition.new.bindings))
+    (c.defined-definition.new.bindings ≡ c.args.bindings.now) c.defined-definition.result c.under.result c.under.ensures.value
+    c.defined-definition.ensures.bindings)
+
+pub evaluate-returns-in-Gen-clause-value : goal.evaluate-returns-in-Gen-clause-value
+evaluate-returns-in-Gen-clause-value t c =
+    let s = c.args.sizes.now in
+    let r = c.args.vars.now in
+    let bs = c.args.bindings.now in
+    let k = extent c.in-Gen.n s in
+    let child = ap (λ e. from_rows (tabulate k (body_in s e r bs))) c.get-in-Gen.ensures in
+    let whole = ap (λ e. tensor_in s e r bs) c.in-Gen.is ∙ ap (λ d. d.tensor r (scope bs)) (denoted-Gen s c.in-Gen.n c.in-Gen.e) in
+    subst (λ (x : Tensor). IfOk c.rows.result (λ v. meant v ≡ x)) (child ∙ sym whole) c.rows.ensures.value
+
+pub with_second-evaluate-requires : goal.with_second-evaluate-requires
+with_second-evaluate-requires t c =
+    let s = c.args.sizes.now in
+    let e = c.args.second.now in (
+      search (rules, the_lemmas),
+      (
+        c.requires.counted,
+        (
+          IfOk-at_ok (λ _. fits_in s e c.args.bindings.now ≡ true) c.in_ok-first.was c.requires.fits,
+          IfOk-at_ok (λ _. exact s e c.args.vars.now ≡ true) c.in_ok-first.was c.requires.exact,
+        ),
+      ),
+    )
+
+pub followed_by-evaluate-requires : goal.followed_by-evaluate-requires
+followed_by-evaluate-requires t c =
+    let s = c.args.sizes.now in
+    let e = c.args.second.now in (
+      search (rules, the_lemmas),
+      (
+        c.requires.counted,
+        (
+          IfOk-at_ok (λ _. fits_in s e c.args.bindings.now ≡ true) c.in_ok-first.was c.requires.fits,
+          IfOk-at_ok (λ _. exact s e c.args.vars.now ≡ true) c.in_ok-first.was c.requires.exact,
+        ),
+      ),
+    )
+
+pub under-returns-clause-value : goal.under-returns-clause-value
+under-returns-clause-value t c =
+    let vars = c.args.vars.now in (
+      c.in_ok-definition.definition,
+      c.in_ok-definition.was,
+      c.in_ok-result.ensures.value
+          ∙ (λ i. tensor_in c.args.sizes.now c.args.body.now vars (c.in_ok-enter.ensures i)),
+    )
+
+pub evaluate-evaluate-requires-in-Split : goal.evaluate-evaluate-requires-in-Split
+evaluate-evaluate-requires-in-Split t c =
+    let s = c.args.sizes.now in
+    let f = fits-Split s (extents_of (scope c.args.bindings.now)) c.args.term.now c.in-Split.k c.in-Split.e c.in-Split.is c.requires.fits in
+    let p = counted-Split s c.args.term.now c.in-Split.k c.in-Split.e c.in-Split.is c.requires.counted in
+    let q = exact-Split s c.args.term.now c.in-Split.k c.in-Split.e c.args.vars.now c.in-Split.is c.requires.exact in
+    let child = sym c.get-in-Split.ensures in (
+      search (rules, the_lemmas),
+      (
+        subst (λ (e : Term). counted s e ≡ true) child p.1,
+        (subst (λ (e : Term). fits_in s e c.args.bindings.now ≡ true) child f, subst (λ (e : Term). exact s e c.args.vars.now ≡ true) child q),
+      ),
+    )
+
+pub evaluate-evaluate-requires-in-Transpose : goal.evaluate-evaluate-requires-in-Transpose
+evaluate-evaluate-requires-in-Transpose t c =
+    let s = c.args.sizes.now in
+    let f = fits-Transpose s (extents_of (scope c.args.bindings.now)) c.args.term.now c.in-Transpose.e c.in-Transpose.is c.requires.fits in
+    let p = counted-Transpose s c.args.term.now c.in-Transpose.e c.in-Transpose.is c.requires.counted in
+    let q = exact-Transpose s c.args.term.now c.in-Transpose.e c.args.vars.now c.in-Transpose.is c.requires.exact in
+    let child = sym c.get-in-Transpose.ensures in (
+      search (rules, the_lemmas),
+      (
+        subst (λ (e : Term). counted s e ≡ true) child p,
+        (subst (λ (e : Term). fits_in s e c.args.bindings.now ≡ true) child f, subst (λ (e : Term). exact s e c.args.vars.now ≡ true) child q),
+      ),
+    )

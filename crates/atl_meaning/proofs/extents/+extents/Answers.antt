@@ -1,11 +1,15 @@
-use Rattle.std.proofs.Common.{◌≡◌, ◌∙◌, ◌∷◌, ◌+◌, ◌-◌, ◌*◌, ◌/◌, ◌<◌, ◌^◌, IfOk, List, ℕ, ap, subst, sym}
+use Rattle.std.proofs.Common.{◌≡◌, ◌∙◌, ◌∷◌, ◌+◌, ◌-◌, ◌*◌, ◌/◌, ◌<◌, ◌^◌, IfOk, List, ℕ, ap, rules, subst, sym, true}
 use Rattle.term_tree.specs.declared.term.Term.{Term}
+use Rattle.term_tree.specs.declared.term.Term.TheViews.{the_lemmas}
 use Rattle.term_tree.specs.Meaning.{extents_of, head_of, tail_of}
-use Rattle.atl_meaning.specs.Denoted.{denoted, scope}
+use Rattle.atl_meaning.specs.Denoted.{denoted, fits_in, scope}
+use Rattle.atl_meaning.specs.Exact.{counted}
+use Rattle.atl_meaning.proofs.CodeLaws.{counted-Concat, counted-Flatten, counted-Let, counted-Split, counted-Transpose}
 use Rattle.atl_meaning.proofs.CodeLaws.{counted-Gen, counted-PadL, counted-PadR, counted-TruncL, counted-TruncR}
 use Rattle.atl_meaning.proofs.ExtentCode.{extents-Index, extents-Gen, extents-Flatten, extents-Split, extents-Transpose, extents-TruncL, extents-TruncR}
 use Rattle.atl_meaning.proofs.ExtentCode.{extents-PadL, extents-PadR}
-use Rattle.atl_meaning.proofs.FitLaws.{fits-Flatten, fits-PadL, fits-PadR}
+use Rattle.atl_meaning.proofs.FitLaws.{fits-Concat, fits-Flatten, fits-Gen, fits-Let, fits-PadL}
+use Rattle.atl_meaning.proofs.FitLaws.{fits-PadR, fits-Split, fits-Transpose, fits-TruncL, fits-TruncR}
 use Rattle.atl_meaning.proofs.MadeLaws.{below_fits, made-kept, made-value}
 use Rattle.atl_meaning.proofs.extents.+extents.Goals as goal
 
@@ -201,3 +205,103 @@ pub extents-returns-in-PadR-clause-bindings : goal.extents-returns-in-PadR-claus
 extents-returns-in-PadR-clause-bindings t c =
     made-kept (λ d. (head_of d + c.extent-in-PadR.result) ∷ tail_of d) (c.extents-in-PadR.new.bindings ≡ c.args.bindings.now) c.extents-in-PadR.result
     c.lengthened-in-PadR.result c.lengthened-in-PadR.ensures c.extents-in-PadR.ensures.bindings
+
+pub extents-extents-requires : goal.extents-extents-requires
+extents-extents-requires t c =
+    let s = c.args.sizes.now in
+    let f = fits-Let s (extents_of (scope c.args.bindings.now)) c.args.term.now c.in-Let.a c.in-Let.b c.in-Let.is c.requires.fits in
+    let p = counted-Let s c.args.term.now c.in-Let.a c.in-Let.b c.in-Let.is c.requires.counted in
+    let child = sym c.get.ensures in (
+      search (rules, the_lemmas),
+      (subst (λ (e : Term). counted s e ≡ true) child p.0, subst (λ (e : Term). fits_in s e c.args.bindings.now ≡ true) child f.0),
+    )
+
+pub extents-extents-requires-in-Concat : goal.extents-extents-requires-in-Concat
+extents-extents-requires-in-Concat t c =
+    let s = c.args.sizes.now in
+    let f = fits-Concat s (extents_of (scope c.args.bindings.now)) c.args.term.now c.in-Concat.a c.in-Concat.b c.in-Concat.is c.requires.fits in
+    let p = counted-Concat s c.args.term.now c.in-Concat.a c.in-Concat.b c.in-Concat.is c.requires.counted in
+    let child = sym c.get-in-Concat.ensures in (
+      search (rules, the_lemmas),
+      (subst (λ (e : Term). counted s e ≡ true) child p.0, subst (λ (e : Term). fits_in s e c.args.bindings.now ≡ true) child f.0.0),
+    )
+
+pub extents-extents-requires-in-Flatten : goal.extents-extents-requires-in-Flatten
+extents-extents-requires-in-Flatten t c =
+    let s = c.args.sizes.now in
+    let f = fits-Flatten s (extents_of (scope c.args.bindings.now)) c.args.term.now c.in-Flatten.e c.in-Flatten.is c.requires.fits in
+    let p = counted-Flatten s c.args.term.now c.in-Flatten.e c.in-Flatten.is c.requires.counted in
+    let child = sym c.get-in-Flatten.ensures in (
+      search (rules, the_lemmas),
+      (subst (λ (e : Term). counted s e ≡ true) child p, subst (λ (e : Term). fits_in s e c.args.bindings.now ≡ true) child f.0),
+    )
+
+pub extents-extents-requires-in-Transpose : goal.extents-extents-requires-in-Transpose
+extents-extents-requires-in-Transpose t c =
+    let s = c.args.sizes.now in
+    let f = fits-Transpose s (extents_of (scope c.args.bindings.now)) c.args.term.now c.in-Transpose.e c.in-Transpose.is c.requires.fits in
+    let p = counted-Transpose s c.args.term.now c.in-Transpose.e c.in-Transpose.is c.requires.counted in
+    let child = sym c.get-in-Transpose.ensures in (
+      search (rules, the_lemmas),
+      (subst (λ (e : Term). counted s e ≡ true) child p, subst (λ (e : Term). fits_in s e c.args.bindings.now ≡ true) child f),
+    )
+
+pub extents-extents-requires-in-Split : goal.extents-extents-requires-in-Split
+extents-extents-requires-in-Split t c =
+    let s = c.args.sizes.now in
+    let f = fits-Split s (extents_of (scope c.args.bindings.now)) c.args.term.now c.in-Split.k c.in-Split.e c.in-Split.is c.requires.fits in
+    let p = counted-Split s c.args.term.now c.in-Split.k c.in-Split.e c.in-Split.is c.requires.counted in
+    let child = sym c.get-in-Split.ensures in (
+      search (rules, the_lemmas),
+      (subst (λ (e : Term). counted s e ≡ true) child p.1, subst (λ (e : Term). fits_in s e c.args.bindings.now ≡ true) child f),
+    )
+
+pub extents-extents-requires-in-Gen : goal.extents-extents-requires-in-Gen
+extents-extents-requires-in-Gen t c =
+    let s = c.args.sizes.now in
+    let f = fits-Gen s (extents_of (scope c.args.bindings.now)) c.args.term.now c.in-Gen.n c.in-Gen.e c.in-Gen.is c.requires.fits in
+    let p = counted-Gen s c.args.term.now c.in-Gen.n c.in-Gen.e c.in-Gen.is c.requires.counted in
+    let child = sym c.get-in-Gen.ensures in (
+      search (rules, the_lemmas),
+      (subst (λ (e : Term). counted s e ≡ true) child p.1, subst (λ (e : Term). fits_in s e c.args.bindings.now ≡ true) child f),
+    )
+
+pub extents-extents-requires-in-TruncL : goal.extents-extents-requires-in-TruncL
+extents-extents-requires-in-TruncL t c =
+    let s = c.args.sizes.now in
+    let f = fits-TruncL s (extents_of (scope c.args.bindings.now)) c.args.term.now c.in-TruncL.n c.in-TruncL.e c.in-TruncL.is c.requires.fits in
+    let p = counted-TruncL s c.args.term.now c.in-TruncL.n c.in-TruncL.e c.in-TruncL.is c.requires.counted in
+    let child = sym c.get-in-TruncL.ensures in (
+      search (rules, the_lemmas),
+      (subst (λ (e : Term). counted s e ≡ true) child p.1, subst (λ (e : Term). fits_in s e c.args.bindings.now ≡ true) child f),
+    )
+
+pub extents-extents-requires-in-TruncR : goal.extents-extents-requires-in-TruncR
+extents-extents-requires-in-TruncR t c =
+    let s = c.args.sizes.now in
+    let f = fits-TruncR s (extents_of (scope c.args.bindings.now)) c.args.term.now c.in-TruncR.n c.in-TruncR.e c.in-TruncR.is c.requires.fits in
+    let p = counted-TruncR s c.args.term.now c.in-TruncR.n c.in-TruncR.e c.in-TruncR.is c.requires.counted in
+    let child = sym c.get-in-TruncR.ensures in (
+      search (rules, the_lemmas),
+      (subst (λ (e : Term). counted s e ≡ true) child p.1, subst (λ (e : Term). fits_in s e c.args.bindings.now ≡ true) child f),
+    )
+
+pub extents-extents-requires-in-PadL : goal.extents-extents-requires-in-PadL
+extents-extents-requires-in-PadL t c =
+    let s = c.args.sizes.now in
+    let f = fits-PadL s (extents_of (scope c.args.bindings.now)) c.args.term.now c.in-PadL.n c.in-PadL.e c.in-PadL.is c.requires.fits in
+    let p = counted-PadL s c.args.term.now c.in-PadL.n c.in-PadL.e c.in-PadL.is c.requires.counted in
+    let child = sym c.get-in-PadL.ensures in (
+      search (rules, the_lemmas),
+      (subst (λ (e : Term). counted s e ≡ true) child p.1, subst (λ (e : Term). fits_in s e c.args.bindings.now ≡ true) child f.0),
+    )
+
+pub extents-extents-requires-in-PadR : goal.extents-extents-requires-in-PadR
+extents-extents-requires-in-PadR t c =
+    let s = c.args.sizes.now in
+    let f = fits-PadR s (extents_of (scope c.args.bindings.now)) c.args.term.now c.in-PadR.n c.in-PadR.e c.in-PadR.is c.requires.fits in
+    let p = counted-PadR s c.args.term.now c.in-PadR.n c.in-PadR.e c.in-PadR.is c.requires.counted in
+    let child = sym c.get-in-PadR.ensures in (
+      search (rules, the_lemmas),
+      (subst (λ (e : Term). counted s e ≡ true) child p.1, subst (λ (e : Term). fits_in s e c.args.bindings.now ≡ true) child f.0),
+    )

@@ -1,7 +1,9 @@
 use Rattle.std.proofs.Common.{◌≡◌, ◌∙◌, ◌∷◌, ◌+◌, [], IfOk, List, None, ℕ, ap, false, length, rules, subst, sym, true}
 use Rattle.term_tree.specs.declared.term.Term.{Term}
 use Rattle.term_tree.specs.declared.term.Term.TheViews.{the_lemmas}
+use Rattle.std.proofs.lemmas.Result.{IfOk-at_ok, IfOk-weaker}
 use Rattle.std.specs.Prelude.{IsOk}
+use Rattle.term_tree.specs.Modules.{extents_scoped}
 use Rattle.term_tree.specs.Shape.{Extents, Shaped, shape_of}
 use Rattle.atl_meaning.specs.declared.found.Found.{Found}
 use Rattle.atl_meaning.specs.Forms.{chunked_forms, concatenated_forms, each_scoped, each_within, flattened_forms, lengthened_forms, shortened_forms}
@@ -13,7 +15,8 @@ use Rattle.atl_meaning.specs.Words.{any_large_comparison, at_least_one, first_of
 use Rattle.atl_meaning.proofs.CodeLaws.{placed-Add, placed-Concat, placed-Gen, placed-Let, placed-Mul, placed-PadL, placed-PadR, placed-Sub, placed-Sum}
 use Rattle.atl_meaning.proofs.CodeLaws.{placed-TruncL, placed-TruncR, sized-Add, sized-Concat, sized-Gen, sized-Let, sized-Mul, sized-PadL, sized-PadR}
 use Rattle.atl_meaning.proofs.CodeLaws.{sized-Split, sized-Sub, sized-Sum, sized-TruncL, sized-TruncR}
-use Rattle.atl_meaning.proofs.MadeLaws.{below_fits, made-kept, made-value}
+use Rattle.atl_meaning.proofs.ExtentScopes.{concatenated-scoped, under-scoped}
+use Rattle.atl_meaning.proofs.MadeLaws.{below_fits, both-kept, made-kept, made-value, of-both, of-state}
 use Rattle.atl_meaning.proofs.ShapeCode.{shape-Index, shape-Gen, shape-Sum, shape-Guard, shape-Let, shape-Add, shape-Sub, shape-Mul, shape-Concat}
 use Rattle.atl_meaning.proofs.ShapeCode.{shape-Flatten, shape-Split, shape-Transpose, shape-TruncL, shape-TruncR, shape-PadL, shape-PadR}
 use Rattle.atl_meaning.proofs.SurveyCode.{placed-Flatten, placed-Guard, placed-Index, placed-Split, placed-Transpose, sized-Flatten, sized-Guard, sized-Index}
@@ -60,8 +63,8 @@ survey-survey-requires-in-Guard t c =
       ),
     )
 
-pub survey-survey-requires-in-Let : goal.survey-survey-requires-in-Let
-survey-survey-requires-in-Let t c =
+pub survey-survey-first-requires : goal.survey-survey-first-requires
+survey-survey-first-requires t c =
     let k = length c.args.sizes.now in
     let s = sized-Let k c.args.term.now c.in-Let.a c.in-Let.b c.in-Let.is c.requires.sized in
     let p = placed-Let k c.args.term.now c.in-Let.a c.in-Let.b (length c.args.vars.now) c.in-Let.is c.requires.placed in
@@ -79,8 +82,8 @@ survey-survey-requires-in-Let t c =
       ),
     )
 
-pub survey-survey-requires-in-Add : goal.survey-survey-requires-in-Add
-survey-survey-requires-in-Add t c =
+pub survey-survey-first-requires-in-Add : goal.survey-survey-first-requires-in-Add
+survey-survey-first-requires-in-Add t c =
     let k = length c.args.sizes.now in
     let s = sized-Add k c.args.term.now c.in-Add.a c.in-Add.b c.in-Add.is c.requires.sized in
     let p = placed-Add k c.args.term.now c.in-Add.a c.in-Add.b (length c.args.vars.now) c.in-Add.is c.requires.placed in
@@ -98,8 +101,8 @@ survey-survey-requires-in-Add t c =
       ),
     )
 
-pub survey-survey-requires-in-Sub : goal.survey-survey-requires-in-Sub
-survey-survey-requires-in-Sub t c =
+pub survey-survey-first-requires-in-Sub : goal.survey-survey-first-requires-in-Sub
+survey-survey-first-requires-in-Sub t c =
     let k = length c.args.sizes.now in
     let s = sized-Sub k c.args.term.now c.in-Sub.a c.in-Sub.b c.in-Sub.is c.requires.sized in
     let p = placed-Sub k c.args.term.now c.in-Sub.a c.in-Sub.b (length c.args.vars.now) c.in-Sub.is c.requires.placed in
@@ -117,8 +120,8 @@ survey-survey-requires-in-Sub t c =
       ),
     )
 
-pub survey-survey-requires-in-Mul : goal.survey-survey-requires-in-Mul
-survey-survey-requires-in-Mul t c =
+pub survey-survey-first-requires-in-Mul : goal.survey-survey-first-requires-in-Mul
+survey-survey-first-requires-in-Mul t c =
     let k = length c.args.sizes.now in
     let s = sized-Mul k c.args.term.now c.in-Mul.a c.in-Mul.b c.in-Mul.is c.requires.sized in
     let p = placed-Mul k c.args.term.now c.in-Mul.a c.in-Mul.b (length c.args.vars.now) c.in-Mul.is c.requires.placed in
@@ -136,8 +139,8 @@ survey-survey-requires-in-Mul t c =
       ),
     )
 
-pub survey-survey-requires-in-Concat : goal.survey-survey-requires-in-Concat
-survey-survey-requires-in-Concat t c =
+pub survey-survey-first-requires-in-Concat : goal.survey-survey-first-requires-in-Concat
+survey-survey-first-requires-in-Concat t c =
     let k = length c.args.sizes.now in
     let s = sized-Concat k c.args.term.now c.in-Concat.a c.in-Concat.b c.in-Concat.is c.requires.sized in
     let p = placed-Concat k c.args.term.now c.in-Concat.a c.in-Concat.b (length c.args.vars.now) c.in-Concat.is c.requires.placed in
@@ -326,145 +329,6 @@ survey-under_binder-requires-in-Sum t c =
             (
               subst (λ (e : Term). placed k e (length c.args.vars.now + 1) ≡ true) (sym c.get-in-Sum.ensures) p,
               (c.requires.shapes, subst (λ (e : Term). IsOk (shape_of e c.args.shapes.now)) (sym c.get-in-Sum.ensures) h),
-            ),
-          ),
-        ),
-      ),
-    )
-
-pub survey-under_definition-requires : goal.survey-under_definition-requires
-survey-under_definition-requires t c =
-    let k = length c.args.sizes.now in
-    let s = sized-Let k c.args.term.now c.in-Let.a c.in-Let.b c.in-Let.is c.requires.sized in
-    let p = placed-Let k c.args.term.now c.in-Let.a c.in-Let.b (length c.args.vars.now) c.in-Let.is c.requires.placed in
-    let vars : c.survey-in-Let.new.vars ≡ c.args.vars.now = c.in_ok-first-in-Let.ensures.vars in
-    let shapes : c.survey-in-Let.new.shapes ≡ c.args.shapes.now = c.in_ok-first-in-Let.ensures.shapes in
-    let h = shape-Let c.args.sizes.now c.args.vars.now c.args.shapes.now c.args.term.now c.in-Let.a c.in-Let.b c.in-Let.is c.requires.shaped in
-    let later = subst (λ (r : List ℕ). placed k c.in-Let.b (length r) ≡ true) (sym vars) p.1 in (
-      search (rules, the_lemmas),
-      (
-        c.requires.floor,
-        (
-          subst (λ (e : Term). sized k e ≡ true) (sym c.get-in-Let-2.ensures) s.1,
-          (
-            subst (λ (e : Term). placed k e (length c.survey-in-Let.new.vars) ≡ true) (sym c.get-in-Let-2.ensures) later,
-            (
-              subst (λ (ts : List Extents). each_scoped k ts ≡ true) (sym shapes) c.requires.shapes,
-              (
-                c.in_ok-first-in-Let.ensures.scoped,
-                subst (λ (x : Shaped). IsOk x)
-                    (sym (λ i. shape_of (c.get-in-Let-2.ensures i)
-                    (((c.in_ok-first-in-Let.ensures.found ∙ ap (λ e. surveyed c.args.sizes.now e c.args.vars.now c.args.shapes.now) c.get-in-Let.ensures) i).extents
-                    ∷ shapes i))) h.1,
-              ),
-            ),
-          ),
-        ),
-      ),
-    )
-
-pub survey-like_first-requires : goal.survey-like_first-requires
-survey-like_first-requires t c =
-    let k = length c.args.sizes.now in
-    let s = sized-Add k c.args.term.now c.in-Add.a c.in-Add.b c.in-Add.is c.requires.sized in
-    let p = placed-Add k c.args.term.now c.in-Add.a c.in-Add.b (length c.args.vars.now) c.in-Add.is c.requires.placed in
-    let vars : c.survey-in-Add.new.vars ≡ c.args.vars.now = c.in_ok-first-in-Add.ensures.vars in
-    let shapes : c.survey-in-Add.new.shapes ≡ c.args.shapes.now = c.in_ok-first-in-Add.ensures.shapes in
-    let h = shape-Add c.args.sizes.now c.args.vars.now c.args.shapes.now c.args.term.now c.in-Add.a c.in-Add.b c.in-Add.is c.requires.shaped in
-    let later = subst (λ (r : List ℕ). placed k c.in-Add.b (length r) ≡ true) (sym vars) p.1 in (
-      search (rules, the_lemmas),
-      (
-        c.requires.floor,
-        (
-          subst (λ (e : Term). sized k e ≡ true) (sym c.get-in-Add-2.ensures) s.1,
-          (
-            subst (λ (e : Term). placed k e (length c.survey-in-Add.new.vars) ≡ true) (sym c.get-in-Add-2.ensures) later,
-            (
-              subst (λ (ts : List Extents). each_scoped k ts ≡ true) (sym shapes) c.requires.shapes,
-              (c.in_ok-first-in-Add.ensures.scoped, subst (λ (x : Shaped). IsOk x) (sym (λ i. shape_of (c.get-in-Add-2.ensures i) (shapes i))) h.1),
-            ),
-          ),
-        ),
-      ),
-    )
-
-pub survey-like_first-requires-in-Sub : goal.survey-like_first-requires-in-Sub
-survey-like_first-requires-in-Sub t c =
-    let k = length c.args.sizes.now in
-    let s = sized-Sub k c.args.term.now c.in-Sub.a c.in-Sub.b c.in-Sub.is c.requires.sized in
-    let p = placed-Sub k c.args.term.now c.in-Sub.a c.in-Sub.b (length c.args.vars.now) c.in-Sub.is c.requires.placed in
-    let vars : c.survey-in-Sub.new.vars ≡ c.args.vars.now = c.in_ok-first-in-Sub.ensures.vars in
-    let shapes : c.survey-in-Sub.new.shapes ≡ c.args.shapes.now = c.in_ok-first-in-Sub.ensures.shapes in
-    let h = shape-Sub c.args.sizes.now c.args.vars.now c.args.shapes.now c.args.term.now c.in-Sub.a c.in-Sub.b c.in-Sub.is c.requires.shaped in
-    let later = subst (λ (r : List ℕ). placed k c.in-Sub.b (length r) ≡ true) (sym vars) p.1 in (
-      search (rules, the_lemmas),
-      (
-        c.requires.floor,
-        (
-          subst (λ (e : Term). sized k e ≡ true) (sym c.get-in-Sub-2.ensures) s.1,
-          (
-            subst (λ (e : Term). placed k e (length c.survey-in-Sub.new.vars) ≡ true) (sym c.get-in-Sub-2.ensures) later,
-            (
-              subst (λ (ts : List Extents). each_scoped k ts ≡ true) (sym shapes) c.requires.shapes,
-              (c.in_ok-first-in-Sub.ensures.scoped, subst (λ (x : Shaped). IsOk x) (sym (λ i. shape_of (c.get-in-Sub-2.ensures i) (shapes i))) h.1),
-            ),
-          ),
-        ),
-      ),
-    )
-
-pub survey-word_of_both-requires : goal.survey-word_of_both-requires
-survey-word_of_both-requires t c =
-    let k = length c.args.sizes.now in
-    let s = sized-Mul k c.args.term.now c.in-Mul.a c.in-Mul.b c.in-Mul.is c.requires.sized in
-    let p = placed-Mul k c.args.term.now c.in-Mul.a c.in-Mul.b (length c.args.vars.now) c.in-Mul.is c.requires.placed in
-    let vars : c.survey-in-Mul.new.vars ≡ c.args.vars.now = c.in_ok-first-in-Mul.ensures.vars in
-    let shapes : c.survey-in-Mul.new.shapes ≡ c.args.shapes.now = c.in_ok-first-in-Mul.ensures.shapes in
-    let h = shape-Mul c.args.sizes.now c.args.vars.now c.args.shapes.now c.args.term.now c.in-Mul.a c.in-Mul.b c.in-Mul.is c.requires.shaped in
-    let later = subst (λ (r : List ℕ). placed k c.in-Mul.b (length r) ≡ true) (sym vars) p.1 in (
-      search (rules, the_lemmas),
-      (
-        c.requires.floor,
-        (
-          subst (λ (e : Term). sized k e ≡ true) (sym c.get-in-Mul-2.ensures) s.1,
-          (
-            subst (λ (e : Term). placed k e (length c.survey-in-Mul.new.vars) ≡ true) (sym c.get-in-Mul-2.ensures) later,
-            (
-              subst (λ (ts : List Extents). each_scoped k ts ≡ true) (sym shapes) c.requires.shapes,
-              (c.in_ok-first-in-Mul.ensures.scoped, subst (λ (x : Shaped). IsOk x) (sym (λ i. shape_of (c.get-in-Mul-2.ensures i) (shapes i))) h.1),
-            ),
-          ),
-        ),
-      ),
-    )
-
-pub survey-concatenated_node-requires : goal.survey-concatenated_node-requires
-survey-concatenated_node-requires t c =
-    let k = length c.args.sizes.now in
-    let s = sized-Concat k c.args.term.now c.in-Concat.a c.in-Concat.b c.in-Concat.is c.requires.sized in
-    let p = placed-Concat k c.args.term.now c.in-Concat.a c.in-Concat.b (length c.args.vars.now) c.in-Concat.is c.requires.placed in
-    let vars : c.survey-in-Concat.new.vars ≡ c.args.vars.now = c.in_ok-first-in-Concat.ensures.vars in
-    let shapes : c.survey-in-Concat.new.shapes ≡ c.args.shapes.now = c.in_ok-first-in-Concat.ensures.shapes in
-    let h = shape-Concat c.args.sizes.now c.args.vars.now c.args.shapes.now c.args.term.now c.in-Concat.a c.in-Concat.b c.in-Concat.is c.requires.shaped in
-    let later = subst (λ (r : List ℕ). placed k c.in-Concat.b (length r) ≡ true) (sym vars) p.1 in (
-      search (rules, the_lemmas),
-      (
-        c.requires.floor,
-        (
-          subst (λ (e : Term). sized k e ≡ true) (sym c.get-in-Concat-2.ensures) s.1,
-          (
-            subst (λ (e : Term). placed k e (length c.survey-in-Concat.new.vars) ≡ true) (sym c.get-in-Concat-2.ensures) later,
-            (
-              subst (λ (ts : List Extents). each_scoped k ts ≡ true) (sym shapes) c.requires.shapes,
-              (
-                c.in_ok-first-in-Concat.ensures.scoped,
-                (
-                  subst (λ (x : Shaped). IsOk x) (sym (λ i. shape_of (c.get-in-Concat-2.ensures i) (shapes i))) h.1,
-                  (λ i. each_within (concatenated_forms
-                      ((c.in_ok-first-in-Concat.ensures.found ∙ ap (λ e. surveyed c.args.sizes.now e c.args.vars.now c.args.shapes.now) c.get-in-Concat.ensures) i).extents
-                      (surveyed c.args.sizes.now (c.get-in-Concat-2.ensures i) (vars i) (shapes i)).extents)) ∙ h.2,
-                ),
-              ),
             ),
           ),
         ),
@@ -750,83 +614,6 @@ survey-returns-in-PadR-clause-shapes t c =
     (c.survey-in-PadR.new.shapes ≡ c.args.shapes.now) c.survey-in-PadR.result c.lengthened_node-in-PadR.result c.lengthened_node-in-PadR.ensures.found
     c.survey-in-PadR.ensures.shapes
 
-pub survey-returns-in_ok-first-in-Let-clause-found : goal.survey-returns-in_ok-first-in-Let-clause-found
-survey-returns-in_ok-first-in-Let-clause-found t c =
-    let s = c.args.sizes.now in
-    let vars = c.args.vars.now in
-    let ts = c.args.shapes.now in
-    let first : c.in_ok-first-in-Let.first ≡ surveyed s c.in-Let.a vars ts =
-    c.in_ok-first-in-Let.ensures.found ∙ ap (λ e. surveyed s e vars ts) c.get-in-Let.ensures in
-    let second : surveyed s c.get-in-Let-2.result.now c.survey-in-Let.new.vars (c.in_ok-first-in-Let.first.extents ∷ c.survey-in-Let.new.shapes) ≡ surveyed s
-    c.in-Let.b vars ((surveyed s c.in-Let.a vars ts).extents ∷ ts) =
-    λ i. surveyed s (c.get-in-Let-2.ensures i) (c.in_ok-first-in-Let.ensures.vars i) ((first i).extents ∷ c.in_ok-first-in-Let.ensures.shapes i) in
-    let whole = surveyed-Let s vars ts c.args.term.now c.in-Let.a c.in-Let.b c.in-Let.is in
-    subst (λ (f : Found). IfOk c.under_definition.result (λ found. found ≡ f))
-    (ap (λ f. under_found s f
-    (surveyed s c.get-in-Let-2.result.now c.survey-in-Let.new.vars (c.in_ok-first-in-Let.first.extents ∷ c.survey-in-Let.new.shapes))) first
-    ∙ ap (under_found s (surveyed s c.in-Let.a vars ts)) second ∙ sym whole) c.under_definition.ensures.found
-
-pub survey-returns-in_ok-first-in-Add-clause-found : goal.survey-returns-in_ok-first-in-Add-clause-found
-survey-returns-in_ok-first-in-Add-clause-found t c =
-    let s = c.args.sizes.now in
-    let vars = c.args.vars.now in
-    let ts = c.args.shapes.now in
-    let first : c.in_ok-first-in-Add.first ≡ surveyed s c.in-Add.a vars ts =
-    c.in_ok-first-in-Add.ensures.found ∙ ap (λ e. surveyed s e vars ts) c.get-in-Add.ensures in
-    let second : surveyed s c.get-in-Add-2.result.now c.survey-in-Add.new.vars c.survey-in-Add.new.shapes ≡ surveyed s c.in-Add.b vars ts =
-    λ i. surveyed s (c.get-in-Add-2.ensures i) (c.in_ok-first-in-Add.ensures.vars i) (c.in_ok-first-in-Add.ensures.shapes i) in
-    let whole = surveyed-Add s vars ts c.args.term.now c.in-Add.a c.in-Add.b c.in-Add.is in
-    subst (λ (f : Found). IfOk c.like_first.result (λ found. found ≡ f))
-    (ap (λ f. found_at s f.extents false (first_of f.big (surveyed s c.get-in-Add-2.result.now c.survey-in-Add.new.vars c.survey-in-Add.new.shapes).big))
-    first ∙ ap (λ g. found_at s (surveyed s c.in-Add.a vars ts).extents false (first_of (surveyed s c.in-Add.a vars ts).big g.big)) second ∙ sym whole)
-    c.like_first.ensures.found
-
-pub survey-returns-in_ok-first-in-Sub-clause-found : goal.survey-returns-in_ok-first-in-Sub-clause-found
-survey-returns-in_ok-first-in-Sub-clause-found t c =
-    let s = c.args.sizes.now in
-    let vars = c.args.vars.now in
-    let ts = c.args.shapes.now in
-    let first : c.in_ok-first-in-Sub.first ≡ surveyed s c.in-Sub.a vars ts =
-    c.in_ok-first-in-Sub.ensures.found ∙ ap (λ e. surveyed s e vars ts) c.get-in-Sub.ensures in
-    let second : surveyed s c.get-in-Sub-2.result.now c.survey-in-Sub.new.vars c.survey-in-Sub.new.shapes ≡ surveyed s c.in-Sub.b vars ts =
-    λ i. surveyed s (c.get-in-Sub-2.ensures i) (c.in_ok-first-in-Sub.ensures.vars i) (c.in_ok-first-in-Sub.ensures.shapes i) in
-    let whole = surveyed-Sub s vars ts c.args.term.now c.in-Sub.a c.in-Sub.b c.in-Sub.is in
-    subst (λ (f : Found). IfOk c.like_first-in-Sub.result (λ found. found ≡ f))
-    (ap (λ f. found_at s f.extents false (first_of f.big (surveyed s c.get-in-Sub-2.result.now c.survey-in-Sub.new.vars c.survey-in-Sub.new.shapes).big))
-    first ∙ ap (λ g. found_at s (surveyed s c.in-Sub.a vars ts).extents false (first_of (surveyed s c.in-Sub.a vars ts).big g.big)) second ∙ sym whole)
-    c.like_first-in-Sub.ensures.found
-
-pub survey-returns-in_ok-first-in-Mul-clause-found : goal.survey-returns-in_ok-first-in-Mul-clause-found
-survey-returns-in_ok-first-in-Mul-clause-found t c =
-    let s = c.args.sizes.now in
-    let vars = c.args.vars.now in
-    let ts = c.args.shapes.now in
-    let first : c.in_ok-first-in-Mul.first ≡ surveyed s c.in-Mul.a vars ts =
-    c.in_ok-first-in-Mul.ensures.found ∙ ap (λ e. surveyed s e vars ts) c.get-in-Mul.ensures in
-    let second : surveyed s c.get-in-Mul-2.result.now c.survey-in-Mul.new.vars c.survey-in-Mul.new.shapes ≡ surveyed s c.in-Mul.b vars ts =
-    λ i. surveyed s (c.get-in-Mul-2.ensures i) (c.in_ok-first-in-Mul.ensures.vars i) (c.in_ok-first-in-Mul.ensures.shapes i) in
-    let whole = surveyed-Mul s vars ts c.args.term.now c.in-Mul.a c.in-Mul.b c.in-Mul.is in
-    subst (λ (f : Found). IfOk c.word_of_both.result (λ found. found ≡ f))
-    (ap (λ f. found_at s [] false (first_of f.big (surveyed s c.get-in-Mul-2.result.now c.survey-in-Mul.new.vars c.survey-in-Mul.new.shapes).big)) first
-    ∙ ap (λ g. found_at s [] false (first_of (surveyed s c.in-Mul.a vars ts).big g.big)) second ∙ sym whole) c.word_of_both.ensures.found
-
-pub survey-returns-in_ok-first-in-Concat-clause-found : goal.survey-returns-in_ok-first-in-Concat-clause-found
-survey-returns-in_ok-first-in-Concat-clause-found t c =
-    let s = c.args.sizes.now in
-    let vars = c.args.vars.now in
-    let ts = c.args.shapes.now in
-    let first : c.in_ok-first-in-Concat.first ≡ surveyed s c.in-Concat.a vars ts =
-    c.in_ok-first-in-Concat.ensures.found ∙ ap (λ e. surveyed s e vars ts) c.get-in-Concat.ensures in
-    let second : surveyed s c.get-in-Concat-2.result.now c.survey-in-Concat.new.vars c.survey-in-Concat.new.shapes ≡ surveyed s c.in-Concat.b vars ts =
-    λ i. surveyed s (c.get-in-Concat-2.ensures i) (c.in_ok-first-in-Concat.ensures.vars i) (c.in_ok-first-in-Concat.ensures.shapes i) in
-    let whole = surveyed-Concat s vars ts c.args.term.now c.in-Concat.a c.in-Concat.b c.in-Concat.is in
-    subst (λ (f : Found). IfOk c.concatenated_node.result (λ found. found ≡ f))
-    (ap (λ f. found_at s (concatenated_forms f.extents
-    (surveyed s c.get-in-Concat-2.result.now c.survey-in-Concat.new.vars c.survey-in-Concat.new.shapes).extents) false
-    (first_of f.big (surveyed s c.get-in-Concat-2.result.now c.survey-in-Concat.new.vars c.survey-in-Concat.new.shapes).big)) first
-    ∙ ap (λ g. found_at s (concatenated_forms (surveyed s c.in-Concat.a vars ts).extents g.extents) false
-    (first_of (surveyed s c.in-Concat.a vars ts).big g.big)) second ∙ sym whole) c.concatenated_node.ensures.found
-
 pub survey-returns-in-WordOf-clause-found : goal.survey-returns-in-WordOf-clause-found
 survey-returns-in-WordOf-clause-found t c =
     let s = c.args.sizes.now in
@@ -897,3 +684,517 @@ survey-lengthened_node-requires-in-PadR-clause-within t c =
     subst (λ (e : Term). IfOk c.survey-in-PadR.result (λ f. f ≡ surveyed s e vars ts)) c.get-in-PadR.ensures c.survey-in-PadR.ensures.found in
     below_fits (λ f. each_within (lengthened_forms c.in-PadR.n f.extents) ≡ true) c.survey-in-PadR.result (surveyed s c.in-PadR.e vars ts) child
     (shape-PadR s vars ts c.args.term.now c.in-PadR.n c.in-PadR.e c.in-PadR.is c.requires.shaped).1
+
+pub survey-under_definition-requires : goal.survey-under_definition-requires
+survey-under_definition-requires t c =
+    let s = c.args.sizes.now in
+    let vars = c.args.vars.now in
+    let ts = c.args.shapes.now in
+    let k = length s in
+    let z = sized-Let k c.args.term.now c.in-Let.a c.in-Let.b c.in-Let.is c.requires.sized in
+    let p = placed-Let k c.args.term.now c.in-Let.a c.in-Let.b (length vars) c.in-Let.is c.requires.placed in
+    let h = shape-Let s vars ts c.args.term.now c.in-Let.a c.in-Let.b c.in-Let.is c.requires.shaped in
+    let child : IfOk c.survey-first.result (λ f. f ≡ surveyed s c.in-Let.a vars ts) =
+    subst (λ (e : Term). IfOk c.survey-first.result (λ f. f ≡ surveyed s e vars ts)) c.get-in-Let.ensures c.survey-first.ensures.found in (
+      search (rules, the_lemmas),
+      (
+        c.requires.floor,
+        (
+          subst (λ (e : Term). sized k e ≡ true) (sym c.get-in-Let-2.ensures) z.1,
+          (
+            IfOk-weaker c.survey-first.result _ _ (λ f kept. (λ i. placed k (c.get-in-Let-2.ensures i) (length (kept i))) ∙ p.1) c.survey-first.ensures.vars,
+            (
+              IfOk-weaker c.survey-first.result _ _ (λ f kept. ap (each_scoped k) kept ∙ c.requires.shapes) c.survey-first.ensures.shapes,
+              (
+                c.survey-first.ensures.scoped,
+                of-both (λ (f : Found). f ≡ surveyed s c.in-Let.a vars ts) (λ (_ : Found). c.survey-first.new.shapes ≡ ts)
+                    (λ (f : Found). IsOk (shape_of c.get-in-Let-2.result.now (f.extents ∷ c.survey-first.new.shapes))) c.survey-first.result
+                    (λ f same kept. subst (λ (x : Shaped). IsOk x) (sym (λ i. shape_of (c.get-in-Let-2.ensures i) ((same i).extents ∷ kept i))) h.1)
+                    child c.survey-first.ensures.shapes,
+              ),
+            ),
+          ),
+        ),
+      ),
+    )
+
+pub survey-returns-in-Let-clause-found : goal.survey-returns-in-Let-clause-found
+survey-returns-in-Let-clause-found t c =
+    let s = c.args.sizes.now in
+    let vars = c.args.vars.now in
+    let ts = c.args.shapes.now in
+    let e = c.get-in-Let-2.result.now in
+    let x = surveyed s c.in-Let.a vars ts in
+    let child : IfOk c.survey-first.result (λ f. f ≡ surveyed s c.in-Let.a vars ts) =
+    subst (λ (e : Term). IfOk c.survey-first.result (λ f. f ≡ surveyed s e vars ts)) c.get-in-Let.ensures c.survey-first.ensures.found in
+    let kept = of-state (λ (r : List ℕ). λ (f : Found). λ (g : Found). g ≡ under_found s f (surveyed s e r (f.extents ∷ c.survey-first.new.shapes)))
+    c.survey-first.new.vars vars c.survey-first.result c.under_definition.result c.under_definition.ensures.found c.survey-first.ensures.vars in
+    let made = of-state (λ (ts : List Extents). λ (f : Found). λ (g : Found). g ≡ under_found s f (surveyed s e vars (f.extents ∷ ts)))
+    c.survey-first.new.shapes ts c.survey-first.result c.under_definition.result kept c.survey-first.ensures.shapes in
+    subst (λ (f : Found). IfOk c.under_definition.result (λ found. found ≡ f))
+    (ap (λ e. under_found s x (surveyed s e vars (x.extents ∷ ts))) c.get-in-Let-2.ensures ∙ sym
+    (surveyed-Let s vars ts c.args.term.now c.in-Let.a c.in-Let.b c.in-Let.is))
+    (made-value (λ f. under_found s f (surveyed s e vars (f.extents ∷ ts))) c.survey-first.result c.under_definition.result x made child)
+
+pub survey-returns-in-Let-clause-vars : goal.survey-returns-in-Let-clause-vars
+survey-returns-in-Let-clause-vars t c =
+    let s = c.args.sizes.now in
+    both-kept c.under_definition.result c.under_definition.new.vars c.survey-first.new.vars c.args.vars.now c.under_definition.ensures.vars
+    (made-kept (λ f. under_found s f (surveyed s c.get-in-Let-2.result.now c.survey-first.new.vars (f.extents ∷ c.survey-first.new.shapes)))
+    (c.survey-first.new.vars ≡ c.args.vars.now)
+    c.survey-first.result c.under_definition.result c.under_definition.ensures.found c.survey-first.ensures.vars)
+
+pub survey-returns-in-Let-clause-shapes : goal.survey-returns-in-Let-clause-shapes
+survey-returns-in-Let-clause-shapes t c =
+    let s = c.args.sizes.now in
+    both-kept c.under_definition.result c.under_definition.new.shapes c.survey-first.new.shapes c.args.shapes.now c.under_definition.ensures.shapes
+    (made-kept (λ f. under_found s f (surveyed s c.get-in-Let-2.result.now c.survey-first.new.vars (f.extents ∷ c.survey-first.new.shapes)))
+    (c.survey-first.new.shapes ≡ c.args.shapes.now)
+    c.survey-first.result c.under_definition.result c.under_definition.ensures.found c.survey-first.ensures.shapes)
+
+pub survey-returns-in-Let-clause-scoped : goal.survey-returns-in-Let-clause-scoped
+survey-returns-in-Let-clause-scoped t c =
+    c.under_definition.ensures.scoped
+
+pub survey-like_first-requires : goal.survey-like_first-requires
+survey-like_first-requires t c =
+    let s = c.args.sizes.now in
+    let vars = c.args.vars.now in
+    let ts = c.args.shapes.now in
+    let k = length s in
+    let z = sized-Add k c.args.term.now c.in-Add.a c.in-Add.b c.in-Add.is c.requires.sized in
+    let p = placed-Add k c.args.term.now c.in-Add.a c.in-Add.b (length vars) c.in-Add.is c.requires.placed in
+    let h = shape-Add s vars ts c.args.term.now c.in-Add.a c.in-Add.b c.in-Add.is c.requires.shaped in
+    let child : IfOk c.survey-first-in-Add.result (λ f. f ≡ surveyed s c.in-Add.a vars ts) =
+    subst (λ (e : Term). IfOk c.survey-first-in-Add.result (λ f. f ≡ surveyed s e vars ts)) c.get-in-Add.ensures c.survey-first-in-Add.ensures.found in (
+      search (rules, the_lemmas),
+      (
+        c.requires.floor,
+        (
+          subst (λ (e : Term). sized k e ≡ true) (sym c.get-in-Add-2.ensures) z.1,
+          (
+            IfOk-weaker c.survey-first-in-Add.result _ _ (λ f kept. (λ i. placed k (c.get-in-Add-2.ensures i) (length (kept i))) ∙ p.1)
+                c.survey-first-in-Add.ensures.vars,
+            (
+              IfOk-weaker c.survey-first-in-Add.result _ _ (λ f kept. ap (each_scoped k) kept ∙ c.requires.shapes) c.survey-first-in-Add.ensures.shapes,
+              (
+                c.survey-first-in-Add.ensures.scoped,
+                IfOk-weaker c.survey-first-in-Add.result _ _ (λ f kept. subst (λ (x : Shaped). IsOk x)
+                    (sym (λ i. shape_of (c.get-in-Add-2.ensures i) (kept i))) h.1)
+                    c.survey-first-in-Add.ensures.shapes,
+              ),
+            ),
+          ),
+        ),
+      ),
+    )
+
+pub survey-returns-in-Add-clause-found : goal.survey-returns-in-Add-clause-found
+survey-returns-in-Add-clause-found t c =
+    let s = c.args.sizes.now in
+    let vars = c.args.vars.now in
+    let ts = c.args.shapes.now in
+    let e = c.get-in-Add-2.result.now in
+    let x = surveyed s c.in-Add.a vars ts in
+    let child : IfOk c.survey-first-in-Add.result (λ f. f ≡ surveyed s c.in-Add.a vars ts) =
+    subst (λ (e : Term). IfOk c.survey-first-in-Add.result (λ f. f ≡ surveyed s e vars ts)) c.get-in-Add.ensures c.survey-first-in-Add.ensures.found in
+    let kept = of-state (λ (r : List ℕ). λ (f : Found). λ (g : Found). g ≡ found_at s f.extents false
+    (first_of f.big (surveyed s e r c.survey-first-in-Add.new.shapes).big))
+    c.survey-first-in-Add.new.vars vars c.survey-first-in-Add.result c.like_first.result c.like_first.ensures.found c.survey-first-in-Add.ensures.vars in
+    let made = of-state (λ (ts : List Extents). λ (f : Found). λ (g : Found). g ≡ found_at s f.extents false (first_of f.big (surveyed s e vars ts).big))
+    c.survey-first-in-Add.new.shapes ts c.survey-first-in-Add.result c.like_first.result kept c.survey-first-in-Add.ensures.shapes in
+    subst (λ (f : Found). IfOk c.like_first.result (λ found. found ≡ f))
+    (ap (λ e. found_at s x.extents false (first_of x.big (surveyed s e vars ts).big)) c.get-in-Add-2.ensures ∙ sym
+    (surveyed-Add s vars ts c.args.term.now c.in-Add.a c.in-Add.b c.in-Add.is))
+    (made-value (λ f. found_at s f.extents false (first_of f.big (surveyed s e vars ts).big)) c.survey-first-in-Add.result c.like_first.result x made child)
+
+pub survey-returns-in-Add-clause-vars : goal.survey-returns-in-Add-clause-vars
+survey-returns-in-Add-clause-vars t c =
+    let s = c.args.sizes.now in
+    both-kept c.like_first.result c.like_first.new.vars c.survey-first-in-Add.new.vars c.args.vars.now c.like_first.ensures.vars
+    (made-kept (λ f. found_at s f.extents false (first_of f.big (surveyed s c.get-in-Add-2.result.now c.survey-first-in-Add.new.vars
+    c.survey-first-in-Add.new.shapes).big)) (c.survey-first-in-Add.new.vars ≡ c.args.vars.now)
+    c.survey-first-in-Add.result c.like_first.result c.like_first.ensures.found c.survey-first-in-Add.ensures.vars)
+
+pub survey-returns-in-Add-clause-shapes : goal.survey-returns-in-Add-clause-shapes
+survey-returns-in-Add-clause-shapes t c =
+    let s = c.args.sizes.now in
+    both-kept c.like_first.result c.like_first.new.shapes c.survey-first-in-Add.new.shapes c.args.shapes.now c.like_first.ensures.shapes
+    (made-kept (λ f. found_at s f.extents false (first_of f.big (surveyed s c.get-in-Add-2.result.now c.survey-first-in-Add.new.vars
+    c.survey-first-in-Add.new.shapes).big)) (c.survey-first-in-Add.new.shapes ≡ c.args.shapes.now)
+    c.survey-first-in-Add.result c.like_first.result c.like_first.ensures.found c.survey-first-in-Add.ensures.shapes)
+
+pub survey-returns-in-Add-clause-scoped : goal.survey-returns-in-Add-clause-scoped
+survey-returns-in-Add-clause-scoped t c =
+    c.like_first.ensures.scoped
+
+pub survey-like_first-requires-in-Sub : goal.survey-like_first-requires-in-Sub
+survey-like_first-requires-in-Sub t c =
+    let s = c.args.sizes.now in
+    let vars = c.args.vars.now in
+    let ts = c.args.shapes.now in
+    let k = length s in
+    let z = sized-Sub k c.args.term.now c.in-Sub.a c.in-Sub.b c.in-Sub.is c.requires.sized in
+    let p = placed-Sub k c.args.term.now c.in-Sub.a c.in-Sub.b (length vars) c.in-Sub.is c.requires.placed in
+    let h = shape-Sub s vars ts c.args.term.now c.in-Sub.a c.in-Sub.b c.in-Sub.is c.requires.shaped in
+    let child : IfOk c.survey-first-in-Sub.result (λ f. f ≡ surveyed s c.in-Sub.a vars ts) =
+    subst (λ (e : Term). IfOk c.survey-first-in-Sub.result (λ f. f ≡ surveyed s e vars ts)) c.get-in-Sub.ensures c.survey-first-in-Sub.ensures.found in (
+      search (rules, the_lemmas),
+      (
+        c.requires.floor,
+        (
+          subst (λ (e : Term). sized k e ≡ true) (sym c.get-in-Sub-2.ensures) z.1,
+          (
+            IfOk-weaker c.survey-first-in-Sub.result _ _ (λ f kept. (λ i. placed k (c.get-in-Sub-2.ensures i) (length (kept i))) ∙ p.1)
+                c.survey-first-in-Sub.ensures.vars,
+            (
+              IfOk-weaker c.survey-first-in-Sub.result _ _ (λ f kept. ap (each_scoped k) kept ∙ c.requires.shapes) c.survey-first-in-Sub.ensures.shapes,
+              (
+                c.survey-first-in-Sub.ensures.scoped,
+                IfOk-weaker c.survey-first-in-Sub.result _ _ (λ f kept. subst (λ (x : Shaped). IsOk x)
+                    (sym (λ i. shape_of (c.get-in-Sub-2.ensures i) (kept i))) h.1)
+                    c.survey-first-in-Sub.ensures.shapes,
+              ),
+            ),
+          ),
+        ),
+      ),
+    )
+
+pub survey-returns-in-Sub-clause-found : goal.survey-returns-in-Sub-clause-found
+survey-returns-in-Sub-clause-found t c =
+    let s = c.args.sizes.now in
+    let vars = c.args.vars.now in
+    let ts = c.args.shapes.now in
+    let e = c.get-in-Sub-2.result.now in
+    let x = surveyed s c.in-Sub.a vars ts in
+    let child : IfOk c.survey-first-in-Sub.result (λ f. f ≡ surveyed s c.in-Sub.a vars ts) =
+    subst (λ (e : Term). IfOk c.survey-first-in-Sub.result (λ f. f ≡ surveyed s e vars ts)) c.get-in-Sub.ensures c.survey-first-in-Sub.ensures.found in
+    let kept = of-state (λ (r : List ℕ). λ (f : Found). λ (g : Found). g ≡ found_at s f.extents false
+    (first_of f.big (surveyed s e r c.survey-first-in-Sub.new.shapes).big))
+    c.survey-first-in-Sub.new.vars vars c.survey-first-in-Sub.result c.like_first-in-Sub.result c.like_first-in-Sub.ensures.found
+    c.survey-first-in-Sub.ensures.vars in
+    let made = of-state (λ (ts : List Extents). λ (f : Found). λ (g : Found). g ≡ found_at s f.extents false (first_of f.big (surveyed s e vars ts).big))
+    c.survey-first-in-Sub.new.shapes ts c.survey-first-in-Sub.result c.like_first-in-Sub.result kept c.survey-first-in-Sub.ensures.shapes in
+    subst (λ (f : Found). IfOk c.like_first-in-Sub.result (λ found. found ≡ f))
+    (ap (λ e. found_at s x.extents false (first_of x.big (surveyed s e vars ts).big)) c.get-in-Sub-2.ensures ∙ sym
+    (surveyed-Sub s vars ts c.args.term.now c.in-Sub.a c.in-Sub.b c.in-Sub.is))
+    (made-value (λ f. found_at s f.extents false (first_of f.big (surveyed s e vars ts).big)) c.survey-first-in-Sub.result c.like_first-in-Sub.result x made
+    child)
+
+pub survey-returns-in-Sub-clause-vars : goal.survey-returns-in-Sub-clause-vars
+survey-returns-in-Sub-clause-vars t c =
+    let s = c.args.sizes.now in
+    both-kept c.like_first-in-Sub.result c.like_first-in-Sub.new.vars c.survey-first-in-Sub.new.vars c.args.vars.now c.like_first-in-Sub.ensures.vars
+    (made-kept (λ f. found_at s f.extents false (first_of f.big (surveyed s c.get-in-Sub-2.result.now c.survey-first-in-Sub.new.vars
+    c.survey-first-in-Sub.new.shapes).big)) (c.survey-first-in-Sub.new.vars ≡ c.args.vars.now)
+    c.survey-first-in-Sub.result c.like_first-in-Sub.result c.like_first-in-Sub.ensures.found c.survey-first-in-Sub.ensures.vars)
+
+pub survey-returns-in-Sub-clause-shapes : goal.survey-returns-in-Sub-clause-shapes
+survey-returns-in-Sub-clause-shapes t c =
+    let s = c.args.sizes.now in
+    both-kept c.like_first-in-Sub.result c.like_first-in-Sub.new.shapes c.survey-first-in-Sub.new.shapes c.args.shapes.now c.like_first-in-Sub.ensures.shapes
+    (made-kept (λ f. found_at s f.extents false (first_of f.big (surveyed s c.get-in-Sub-2.result.now c.survey-first-in-Sub.new.vars
+    c.survey-first-in-Sub.new.shapes).big)) (c.survey-first-in-Sub.new.shapes ≡ c.args.shapes.now)
+    c.survey-first-in-Sub.result c.like_first-in-Sub.result c.like_first-in-Sub.ensures.found c.survey-first-in-Sub.ensures.shapes)
+
+pub survey-returns-in-Sub-clause-scoped : goal.survey-returns-in-Sub-clause-scoped
+survey-returns-in-Sub-clause-scoped t c =
+    c.like_first-in-Sub.ensures.scoped
+
+pub survey-word_of_both-requires : goal.survey-word_of_both-requires
+survey-word_of_both-requires t c =
+    let s = c.args.sizes.now in
+    let vars = c.args.vars.now in
+    let ts = c.args.shapes.now in
+    let k = length s in
+    let z = sized-Mul k c.args.term.now c.in-Mul.a c.in-Mul.b c.in-Mul.is c.requires.sized in
+    let p = placed-Mul k c.args.term.now c.in-Mul.a c.in-Mul.b (length vars) c.in-Mul.is c.requires.placed in
+    let h = shape-Mul s vars ts c.args.term.now c.in-Mul.a c.in-Mul.b c.in-Mul.is c.requires.shaped in
+    let child : IfOk c.survey-first-in-Mul.result (λ f. f ≡ surveyed s c.in-Mul.a vars ts) =
+    subst (λ (e : Term). IfOk c.survey-first-in-Mul.result (λ f. f ≡ surveyed s e vars ts)) c.get-in-Mul.ensures c.survey-first-in-Mul.ensures.found in (
+      search (rules, the_lemmas),
+      (
+        c.requires.floor,
+        (
+          subst (λ (e : Term). sized k e ≡ true) (sym c.get-in-Mul-2.ensures) z.1,
+          (
+            IfOk-weaker c.survey-first-in-Mul.result _ _ (λ f kept. (λ i. placed k (c.get-in-Mul-2.ensures i) (length (kept i))) ∙ p.1)
+                c.survey-first-in-Mul.ensures.vars,
+            (
+              IfOk-weaker c.survey-first-in-Mul.result _ _ (λ f kept. ap (each_scoped k) kept ∙ c.requires.shapes) c.survey-first-in-Mul.ensures.shapes,
+              (
+                c.survey-first-in-Mul.ensures.scoped,
+                IfOk-weaker c.survey-first-in-Mul.result _ _ (λ f kept. subst (λ (x : Shaped). IsOk x)
+                    (sym (λ i. shape_of (c.get-in-Mul-2.ensures i) (kept i))) h.1)
+                    c.survey-first-in-Mul.ensures.shapes,
+              ),
+            ),
+          ),
+        ),
+      ),
+    )
+
+pub survey-returns-in-Mul-clause-found : goal.survey-returns-in-Mul-clause-found
+survey-returns-in-Mul-clause-found t c =
+    let s = c.args.sizes.now in
+    let vars = c.args.vars.now in
+    let ts = c.args.shapes.now in
+    let e = c.get-in-Mul-2.result.now in
+    let x = surveyed s c.in-Mul.a vars ts in
+    let child : IfOk c.survey-first-in-Mul.result (λ f. f ≡ surveyed s c.in-Mul.a vars ts) =
+    subst (λ (e : Term). IfOk c.survey-first-in-Mul.result (λ f. f ≡ surveyed s e vars ts)) c.get-in-Mul.ensures c.survey-first-in-Mul.ensures.found in
+    let kept = of-state (λ (r : List ℕ). λ (f : Found). λ (g : Found). g ≡ found_at s [] false
+    (first_of f.big (surveyed s e r c.survey-first-in-Mul.new.shapes).big))
+    c.survey-first-in-Mul.new.vars vars c.survey-first-in-Mul.result c.word_of_both.result c.word_of_both.ensures.found c.survey-first-in-Mul.ensures.vars in
+    let made = of-state (λ (ts : List Extents). λ (f : Found). λ (g : Found). g ≡ found_at s [] false (first_of f.big (surveyed s e vars ts).big))
+    c.survey-first-in-Mul.new.shapes ts c.survey-first-in-Mul.result c.word_of_both.result kept c.survey-first-in-Mul.ensures.shapes in
+    subst (λ (f : Found). IfOk c.word_of_both.result (λ found. found ≡ f))
+    (ap (λ e. found_at s [] false (first_of x.big (surveyed s e vars ts).big)) c.get-in-Mul-2.ensures ∙ sym
+    (surveyed-Mul s vars ts c.args.term.now c.in-Mul.a c.in-Mul.b c.in-Mul.is))
+    (made-value (λ f. found_at s [] false (first_of f.big (surveyed s e vars ts).big)) c.survey-first-in-Mul.result c.word_of_both.result x made child)
+
+pub survey-returns-in-Mul-clause-vars : goal.survey-returns-in-Mul-clause-vars
+survey-returns-in-Mul-clause-vars t c =
+    let s = c.args.sizes.now in
+    both-kept c.word_of_both.result c.word_of_both.new.vars c.survey-first-in-Mul.new.vars c.args.vars.now c.word_of_both.ensures.vars
+    (made-kept (λ f. found_at s [] false (first_of f.big (surveyed s c.get-in-Mul-2.result.now c.survey-first-in-Mul.new.vars
+    c.survey-first-in-Mul.new.shapes).big)) (c.survey-first-in-Mul.new.vars ≡ c.args.vars.now)
+    c.survey-first-in-Mul.result c.word_of_both.result c.word_of_both.ensures.found c.survey-first-in-Mul.ensures.vars)
+
+pub survey-returns-in-Mul-clause-shapes : goal.survey-returns-in-Mul-clause-shapes
+survey-returns-in-Mul-clause-shapes t c =
+    let s = c.args.sizes.now in
+    both-kept c.word_of_both.result c.word_of_both.new.shapes c.survey-first-in-Mul.new.shapes c.args.shapes.now c.word_of_both.ensures.shapes
+    (made-kept (λ f. found_at s [] false (first_of f.big (surveyed s c.get-in-Mul-2.result.now c.survey-first-in-Mul.new.vars
+    c.survey-first-in-Mul.new.shapes).big)) (c.survey-first-in-Mul.new.shapes ≡ c.args.shapes.now)
+    c.survey-first-in-Mul.result c.word_of_both.result c.word_of_both.ensures.found c.survey-first-in-Mul.ensures.shapes)
+
+pub survey-returns-in-Mul-clause-scoped : goal.survey-returns-in-Mul-clause-scoped
+survey-returns-in-Mul-clause-scoped t c =
+    c.word_of_both.ensures.scoped
+
+pub survey-concatenated_node-requires : goal.survey-concatenated_node-requires
+survey-concatenated_node-requires t c =
+    let s = c.args.sizes.now in
+    let vars = c.args.vars.now in
+    let ts = c.args.shapes.now in
+    let k = length s in
+    let z = sized-Concat k c.args.term.now c.in-Concat.a c.in-Concat.b c.in-Concat.is c.requires.sized in
+    let p = placed-Concat k c.args.term.now c.in-Concat.a c.in-Concat.b (length vars) c.in-Concat.is c.requires.placed in
+    let h = shape-Concat s vars ts c.args.term.now c.in-Concat.a c.in-Concat.b c.in-Concat.is c.requires.shaped in
+    let child : IfOk c.survey-first-in-Concat.result (λ f. f ≡ surveyed s c.in-Concat.a vars ts) =
+    subst (λ (e : Term). IfOk c.survey-first-in-Concat.result (λ f. f ≡ surveyed s e vars ts)) c.get-in-Concat.ensures
+    c.survey-first-in-Concat.ensures.found in (
+      search (rules, the_lemmas),
+      (
+        c.requires.floor,
+        (
+          subst (λ (e : Term). sized k e ≡ true) (sym c.get-in-Concat-2.ensures) z.1,
+          (
+            IfOk-weaker c.survey-first-in-Concat.result _ _ (λ f kept. (λ i. placed k (c.get-in-Concat-2.ensures i) (length (kept i))) ∙ p.1)
+                c.survey-first-in-Concat.ensures.vars,
+            (
+              IfOk-weaker c.survey-first-in-Concat.result _ _ (λ f kept. ap (each_scoped k) kept ∙ c.requires.shapes) c.survey-first-in-Concat.ensures.shapes,
+              (
+                c.survey-first-in-Concat.ensures.scoped,
+                (
+                  IfOk-weaker c.survey-first-in-Concat.result _ _ (λ f kept. subst (λ (x : Shaped). IsOk x)
+                      (sym (λ i. shape_of (c.get-in-Concat-2.ensures i) (kept i))) h.1)
+                      c.survey-first-in-Concat.ensures.shapes,
+                  of-both (λ (f : Found). f ≡ surveyed s c.in-Concat.a vars ts)
+                      (λ (_ : Found). (surveyed s c.get-in-Concat-2.result.now c.survey-first-in-Concat.new.vars c.survey-first-in-Concat.new.shapes) ≡
+                      surveyed s c.in-Concat.b vars ts)
+                      (λ (f : Found). each_within (concatenated_forms f.extents
+                      (surveyed s c.get-in-Concat-2.result.now c.survey-first-in-Concat.new.vars c.survey-first-in-Concat.new.shapes).extents) ≡ true)
+                      c.survey-first-in-Concat.result (λ f same other. (λ i. each_within (concatenated_forms (same i).extents (other i).extents)) ∙ h.2)
+                      child
+                      (of-both (λ (_ : Found). c.survey-first-in-Concat.new.vars ≡ vars) (λ (_ : Found). c.survey-first-in-Concat.new.shapes ≡ ts)
+                      (λ (_ : Found). (surveyed s c.get-in-Concat-2.result.now c.survey-first-in-Concat.new.vars c.survey-first-in-Concat.new.shapes) ≡
+                      surveyed s c.in-Concat.b vars ts) c.survey-first-in-Concat.result
+                      (λ f same kept. λ i. surveyed s (c.get-in-Concat-2.ensures i) (same i) (kept i)) c.survey-first-in-Concat.ensures.vars
+                      c.survey-first-in-Concat.ensures.shapes),
+                ),
+              ),
+            ),
+          ),
+        ),
+      ),
+    )
+
+pub survey-returns-in-Concat-clause-found : goal.survey-returns-in-Concat-clause-found
+survey-returns-in-Concat-clause-found t c =
+    let s = c.args.sizes.now in
+    let vars = c.args.vars.now in
+    let ts = c.args.shapes.now in
+    let e = c.get-in-Concat-2.result.now in
+    let x = surveyed s c.in-Concat.a vars ts in
+    let child : IfOk c.survey-first-in-Concat.result (λ f. f ≡ surveyed s c.in-Concat.a vars ts) =
+    subst (λ (e : Term). IfOk c.survey-first-in-Concat.result (λ f. f ≡ surveyed s e vars ts)) c.get-in-Concat.ensures c.survey-first-in-Concat.ensures.found in
+    let kept = of-state (λ (r : List ℕ). λ (f : Found). λ (g : Found). g ≡ found_at s
+    (concatenated_forms f.extents (surveyed s e r c.survey-first-in-Concat.new.shapes).extents) false
+    (first_of f.big (surveyed s e r c.survey-first-in-Concat.new.shapes).big))
+    c.survey-first-in-Concat.new.vars vars c.survey-first-in-Concat.result c.concatenated_node.result c.concatenated_node.ensures.found
+    c.survey-first-in-Concat.ensures.vars in
+    let made = of-state (λ (ts : List Extents). λ (f : Found). λ (g : Found). g ≡ found_at s (concatenated_forms f.extents (surveyed s e vars ts).extents)
+    false (first_of f.big (surveyed s e vars ts).big))
+    c.survey-first-in-Concat.new.shapes ts c.survey-first-in-Concat.result c.concatenated_node.result kept c.survey-first-in-Concat.ensures.shapes in
+    subst (λ (f : Found). IfOk c.concatenated_node.result (λ found. found ≡ f))
+    (ap (λ e. found_at s (concatenated_forms x.extents (surveyed s e vars ts).extents) false (first_of x.big (surveyed s e vars ts).big))
+    c.get-in-Concat-2.ensures ∙ sym (surveyed-Concat s vars ts c.args.term.now c.in-Concat.a c.in-Concat.b c.in-Concat.is))
+    (made-value (λ f. found_at s (concatenated_forms f.extents (surveyed s e vars ts).extents) false (first_of f.big (surveyed s e vars ts).big))
+    c.survey-first-in-Concat.result c.concatenated_node.result x made child)
+
+pub survey-returns-in-Concat-clause-vars : goal.survey-returns-in-Concat-clause-vars
+survey-returns-in-Concat-clause-vars t c =
+    let s = c.args.sizes.now in
+    both-kept c.concatenated_node.result c.concatenated_node.new.vars c.survey-first-in-Concat.new.vars c.args.vars.now c.concatenated_node.ensures.vars
+    (made-kept (λ f. found_at s (concatenated_forms f.extents (surveyed s c.get-in-Concat-2.result.now c.survey-first-in-Concat.new.vars
+    c.survey-first-in-Concat.new.shapes).extents) false (first_of f.big
+    (surveyed s c.get-in-Concat-2.result.now c.survey-first-in-Concat.new.vars c.survey-first-in-Concat.new.shapes).big))
+    (c.survey-first-in-Concat.new.vars ≡ c.args.vars.now)
+    c.survey-first-in-Concat.result c.concatenated_node.result c.concatenated_node.ensures.found c.survey-first-in-Concat.ensures.vars)
+
+pub survey-returns-in-Concat-clause-shapes : goal.survey-returns-in-Concat-clause-shapes
+survey-returns-in-Concat-clause-shapes t c =
+    let s = c.args.sizes.now in
+    both-kept c.concatenated_node.result c.concatenated_node.new.shapes c.survey-first-in-Concat.new.shapes c.args.shapes.now c.concatenated_node.ensures.shapes
+    (made-kept (λ f. found_at s (concatenated_forms f.extents (surveyed s c.get-in-Concat-2.result.now c.survey-first-in-Concat.new.vars
+    c.survey-first-in-Concat.new.shapes).extents) false (first_of f.big
+    (surveyed s c.get-in-Concat-2.result.now c.survey-first-in-Concat.new.vars c.survey-first-in-Concat.new.shapes).big))
+    (c.survey-first-in-Concat.new.shapes ≡ c.args.shapes.now)
+    c.survey-first-in-Concat.result c.concatenated_node.result c.concatenated_node.ensures.found c.survey-first-in-Concat.ensures.shapes)
+
+pub survey-returns-in-Concat-clause-scoped : goal.survey-returns-in-Concat-clause-scoped
+survey-returns-in-Concat-clause-scoped t c =
+    c.concatenated_node.ensures.scoped
+
+pub like_first-survey-requires : goal.like_first-survey-requires
+like_first-survey-requires t c =
+    let k = length c.args.sizes.now in
+    let e = c.args.second.now in (
+      search (rules, the_lemmas),
+      (
+        c.requires.floor,
+        (
+          c.requires.sized,
+          (
+            IfOk-at_ok (λ _. placed k e (length c.args.vars.now) ≡ true) c.in_ok-first.was c.requires.placed,
+            (
+              IfOk-at_ok (λ _. each_scoped k c.args.shapes.now ≡ true) c.in_ok-first.was c.requires.shapes,
+              IfOk-at_ok (λ _. IsOk (shape_of e c.args.shapes.now)) c.in_ok-first.was c.requires.shaped,
+            ),
+          ),
+        ),
+      ),
+    )
+
+pub word_of_both-survey-requires : goal.word_of_both-survey-requires
+word_of_both-survey-requires t c =
+    let k = length c.args.sizes.now in
+    let e = c.args.second.now in (
+      search (rules, the_lemmas),
+      (
+        c.requires.floor,
+        (
+          c.requires.sized,
+          (
+            IfOk-at_ok (λ _. placed k e (length c.args.vars.now) ≡ true) c.in_ok-first.was c.requires.placed,
+            (
+              IfOk-at_ok (λ _. each_scoped k c.args.shapes.now ≡ true) c.in_ok-first.was c.requires.shapes,
+              IfOk-at_ok (λ _. IsOk (shape_of e c.args.shapes.now)) c.in_ok-first.was c.requires.shaped,
+            ),
+          ),
+        ),
+      ),
+    )
+
+pub concatenated_node-survey-requires : goal.concatenated_node-survey-requires
+concatenated_node-survey-requires t c =
+    let k = length c.args.sizes.now in
+    let e = c.args.second.now in (
+      search (rules, the_lemmas),
+      (
+        c.requires.floor,
+        (
+          c.requires.sized,
+          (
+            IfOk-at_ok (λ _. placed k e (length c.args.vars.now) ≡ true) c.in_ok-first.was c.requires.placed,
+            (
+              IfOk-at_ok (λ _. each_scoped k c.args.shapes.now ≡ true) c.in_ok-first.was c.requires.shapes,
+              IfOk-at_ok (λ _. IsOk (shape_of e c.args.shapes.now)) c.in_ok-first.was c.requires.shaped,
+            ),
+          ),
+        ),
+      ),
+    )
+
+pub like_first-at_node-requires-clause-scoped : goal.like_first-at_node-requires-clause-scoped
+like_first-at_node-requires-clause-scoped t c =
+    let k = length c.args.sizes.now in
+    IfOk-at_ok (λ f. extents_scoped k f.extents ≡ true) c.in_ok-first.was c.requires.first
+
+pub concatenated_node-concatenated-requires : goal.concatenated_node-concatenated-requires
+concatenated_node-concatenated-requires t c =
+    let s = c.args.sizes.now in
+    let ns = c.in_ok-first.first.extents in
+    ap (λ g. each_within (concatenated_forms ns g.extents)) c.in_ok-other.ensures.found
+    ∙ IfOk-at_ok (λ f. each_within (concatenated_forms f.extents (surveyed s c.args.second.now c.args.vars.now c.args.shapes.now).extents) ≡ true)
+    c.in_ok-first.was c.requires.within
+
+pub concatenated_node-at_node-requires-clause-scoped : goal.concatenated_node-at_node-requires-clause-scoped
+concatenated_node-at_node-requires-clause-scoped t c =
+    let k = length c.args.sizes.now in
+    ap (extents_scoped k) c.in_ok-extents.ensures
+    ∙ concatenated-scoped k c.in_ok-first.first.extents c.in_ok-other.other.extents
+    (IfOk-at_ok (λ f. extents_scoped k f.extents ≡ true) c.in_ok-first.was c.requires.first)
+    c.in_ok-other.ensures.scoped
+
+pub under_definition-survey-requires : goal.under_definition-survey-requires
+under_definition-survey-requires t c =
+    let k = length c.args.sizes.now in
+    let e = c.args.second.now in
+    let ts = c.args.shapes.now in
+    let ns = c.in_ok-first.first.extents in (
+      search (rules, the_lemmas),
+      (
+        c.requires.floor,
+        (
+          c.requires.sized,
+          (
+            IfOk-at_ok (λ _. placed k e (length c.args.vars.now) ≡ true) c.in_ok-first.was c.requires.placed,
+            (
+              ap (each_scoped k) c.in_ok-enter.ensures
+                  ∙ under-scoped k ns ts (IfOk-at_ok (λ f. extents_scoped k f.extents ≡ true) c.in_ok-first.was c.requires.first)
+                  (IfOk-at_ok (λ _. each_scoped k ts ≡ true) c.in_ok-first.was c.requires.shapes),
+              subst (λ (ts : List Extents). IsOk (shape_of e ts)) (sym c.in_ok-enter.ensures)
+                  (IfOk-at_ok (λ f. IsOk (shape_of e (f.extents ∷ ts))) c.in_ok-first.was c.requires.shaped),
+            ),
+          ),
+        ),
+      ),
+    )
+
+pub like_first-returns-clause-found : goal.like_first-returns-clause-found
+like_first-returns-clause-found t c =
+    (c.in_ok-first.first, c.in_ok-first.was, search rules)
+
+pub word_of_both-returns-clause-found : goal.word_of_both-returns-clause-found
+word_of_both-returns-clause-found t c =
+    (c.in_ok-first.first, c.in_ok-first.was, search rules)
+
+pub concatenated_node-returns-clause-found : goal.concatenated_node-returns-clause-found
+concatenated_node-returns-clause-found t c =
+    (c.in_ok-first.first, c.in_ok-first.was, search rules)
+
+pub under_definition-returns-clause-found : goal.under_definition-returns-clause-found
+under_definition-returns-clause-found t c =
+    let s = c.args.sizes.now in
+    let first = c.in_ok-first.first in
+    let found = c.in_ok-body.ensures.found ∙ ap (surveyed s c.args.second.now c.args.vars.now) c.in_ok-enter.ensures in (
+      first,
+      c.in_ok-first.was,
+      c.at_node.ensures.found
+          ∙ ap (found_at s c.in_ok-body.body.extents false) c.first_of.ensures
+          ∙ ap (under_found s first) found,
+    )

@@ -1,4 +1,4 @@
-use Rattle.std.proofs.Common.{◌≡◌, ◌∙◌, ◌∷◌, ap, length, rules, true}
+use Rattle.std.proofs.Common.{◌≡◌, ◌∙◌, ap, length, rules, true}
 use Rattle.std.proofs.lemmas.Result.{IfOk-at_ok}
 use Rattle.term_tree.specs.Modules.{extents_scoped}
 use Rattle.atl_meaning.proofs.ExtentScopes.{transposed-scoped}
