@@ -1,0 +1,3 @@
+mod AllowedLaws
+mod InputLaws
+pub mod EndLaws
