@@ -32,6 +32,7 @@ use Rattle.atl_driver.specs.Compile.{scheduled_as, script_of}
 use Rattle.atl_driver.specs.Correct.{AreLoops, IsAdmitted, IsCompiled, IsRefusedModule, IsRefusedScript, IsRefusedSource, IsTextUnder, IsTextOf}
 use Rattle.atl_driver.specs.declared.compile.CompileRefusal.{CompileRefusal}
 use Rattle.atl_driver.specs.declared.compile.CompileRefusal.TheVariants.{Refused, Memory}
+use Rattle.atl_driver.specs.Asked.{Asked}
 use Rattle.atl_driver.specs.declared.fault.Fault.{Fault}
 
 same_module : (m other : Module) → Reads (Ok m) (Ok other) → other ≡ m
@@ -83,38 +84,38 @@ module _ {A : Type 0} where
   lowered_loops f m fs marks (Err e) same h = tt
 
   -- of a module that is admitted
-  pub admitted_answers : (m : Module) (text : Option (List ℕ)) (r : Result (Vec ℕ A) CompileRefusal) → Accepted m
-      → Answers (scheduled_as (script_of text) m) r → Answers (module_compiled m text) r
+  pub admitted_answers : (emit : Asked) (m : Module) (text : Option (List ℕ)) (r : Result (Vec ℕ A) CompileRefusal) → Accepted m
+      → Answers (scheduled_as emit (script_of text) m) r → Answers (module_compiled emit m text) r
   unfolding module_compiled
-  admitted_answers m text r a h = subst (λ (o : Option AdmissionFault). Answers (judged_as o m text) r) (sym a) h
+  admitted_answers emit m text r a h = subst (λ (o : Option AdmissionFault). Answers (judged_as emit o m text) r) (sym a) h
 
-  pub admitted_under : (m : Module) (script : Option (List ℕ)) (r : Result (Vec ℕ A) CompileRefusal) → IsAdmitted m
-      → IfOk r (λ text. IsTextUnder m script text.items) → IfOk r (λ text. IsAdmitted m × IsTextUnder m script text.items)
-  admitted_under m script (Ok text) a h = (a, h)
-  admitted_under m script (Err e) a h = tt
+  pub admitted_under : (emit : Asked) (m : Module) (script : Option (List ℕ)) (r : Result (Vec ℕ A) CompileRefusal) → IsAdmitted m
+      → IfOk r (λ text. IsTextUnder emit m script text.items) → IfOk r (λ text. IsAdmitted m × IsTextUnder emit m script text.items)
+  admitted_under emit m script (Ok text) a h = (a, h)
+  admitted_under emit m script (Err e) a h = tt
 
   -- of a source that is read
-  pub answers_read : (z : List ℕ) (script : Option (List ℕ)) (m : Module) (r : Result (Vec ℕ A) CompileRefusal) → read_source z ≡ Ok m
-      → Answers (module_compiled m script) r → Answers (compiled z script) r
+  pub answers_read : (emit : Asked) (z : List ℕ) (script : Option (List ℕ)) (m : Module) (r : Result (Vec ℕ A) CompileRefusal) → read_source z ≡ Ok m
+      → Answers (module_compiled emit m script) r → Answers (compiled emit z script) r
   unfolding compiled
-  answers_read z script m r e h = subst (λ (o : Result Module ReadFault). Answers (compiled_as o script) r) (sym e) h
+  answers_read emit z script m r e h = subst (λ (o : Result Module ReadFault). Answers (compiled_as emit o script) r) (sym e) h
 
-  pub compiled_read : (z : List ℕ) (script : Option (List ℕ)) (m : Module) (r : Result (Vec ℕ A) CompileRefusal) → IsTextOf z m
-      → IfOk r (λ text. IsAdmitted m × IsTextUnder m script text.items) → IfOk r (λ text. IsCompiled z script text.items)
-  compiled_read z script m (Ok text) reads h = record { origin = m; reads = reads; admitted = h.0; under = h.1 }
-  compiled_read z script m (Err e) reads h = tt
+  pub compiled_read : (emit : Asked) (z : List ℕ) (script : Option (List ℕ)) (m : Module) (r : Result (Vec ℕ A) CompileRefusal) → IsTextOf z m
+      → IfOk r (λ text. IsAdmitted m × IsTextUnder emit m script text.items) → IfOk r (λ text. IsCompiled emit z script text.items)
+  compiled_read emit z script m (Ok text) reads h = record { origin = m; reads = reads; admitted = h.0; under = h.1 }
+  compiled_read emit z script m (Err e) reads h = tt
 
   -- the cause of a fault of a module that is read
-  pub refused_read : (z : List ℕ) (script : Option (List ℕ)) (m : Module) (r : Result (Vec ℕ A) CompileRefusal) → IsTextOf z m
-      → ((fault : Fault) → IsErrOf r (Refused fault) → IsRefusedModule m script fault)
-      → (fault : Fault) → IsErrOf r (Refused fault) → IsRefusedSource z script fault
-  refused_read z script m r reads h fault is = inr (record { origin = m; reads = reads; why = h fault is })
+  pub refused_read : (emit : Asked) (z : List ℕ) (script : Option (List ℕ)) (m : Module) (r : Result (Vec ℕ A) CompileRefusal) → IsTextOf z m
+      → ((fault : Fault) → IsErrOf r (Refused fault) → IsRefusedModule emit m script fault)
+      → (fault : Fault) → IsErrOf r (Refused fault) → IsRefusedSource emit z script fault
+  refused_read emit z script m r reads h fault is = inr (record { origin = m; reads = reads; why = h fault is })
 
   -- the cause of a fault of a module that is admitted
-  pub refused_admitted : (m : Module) (script : Option (List ℕ)) (r : Result (Vec ℕ A) CompileRefusal) → Accepted m
-      → ((fault : Fault) → IsErrOf r (Refused fault) → IsRefusedScript m script fault)
-      → (fault : Fault) → IsErrOf r (Refused fault) → IsRefusedModule m script fault
-  refused_admitted m script r a h fault is = inr (a, h fault is)
+  pub refused_admitted : (emit : Asked) (m : Module) (script : Option (List ℕ)) (r : Result (Vec ℕ A) CompileRefusal) → Accepted m
+      → ((fault : Fault) → IsErrOf r (Refused fault) → IsRefusedScript emit m script fault)
+      → (fault : Fault) → IsErrOf r (Refused fault) → IsRefusedModule emit m script fault
+  refused_admitted emit m script r a h fault is = inr (a, h fault is)
 
 -- of a module that may not be lowered
 pub unlowerable_answers : (A : Type 0) (m : Module) (fs : List FinalLine) (marks : List Path) (fault : FinalFault) (refusal : CompileRefusal)
@@ -141,29 +142,29 @@ broken_rule m (admission.BadExample c) h n = h
 broken_rule m admission.Memory h n = absurd (n refl)
 
 -- of a module that is not admitted
-pub unadmitted_answers : (A : Type 0) (m : Module) (text : Option (List ℕ)) (fault : AdmissionFault) (refusal : CompileRefusal)
-    → Judges (admission_fault m) fault → TellsAdmission fault refusal → Answers {A = A} (module_compiled m text) (Err refusal)
+pub unadmitted_answers : (A : Type 0) (emit : Asked) (m : Module) (text : Option (List ℕ)) (fault : AdmissionFault) (refusal : CompileRefusal)
+    → Judges (admission_fault m) fault → TellsAdmission fault refusal → Answers {A = A} (module_compiled emit m text) (Err refusal)
 unfolding module_compiled
-unadmitted_answers A m text fault Memory judges tells = tt
-unadmitted_answers A m text fault (Refused told) judges tells =
-    ap (λ (o : Option AdmissionFault). judged_as o m text) (broken_rule m fault judges tells.1) ∙ ap (λ (f : Fault). Err f) (sym tells.0)
+unadmitted_answers A emit m text fault Memory judges tells = tt
+unadmitted_answers A emit m text fault (Refused told) judges tells =
+    ap (λ (o : Option AdmissionFault). judged_as emit o m text) (broken_rule m fault judges tells.1) ∙ ap (λ (f : Fault). Err f) (sym tells.0)
 
 -- a fault that is told of a module that is not admitted
-pub refused_unadmitted : (A : Type 0) (m : Module) (script : Option (List ℕ)) (fault : AdmissionFault) (refusal : CompileRefusal)
+pub refused_unadmitted : (A : Type 0) (emit : Asked) (m : Module) (script : Option (List ℕ)) (fault : AdmissionFault) (refusal : CompileRefusal)
     → Judges (admission_fault m) fault → TellsAdmission fault refusal → (told : Fault) → IsErrOf {T = Vec ℕ A} (Err refusal) (Refused told)
-    → IsRefusedModule m script told
-refused_unadmitted A m script fault Memory judges tells told is = absurd (cc)
-refused_unadmitted A m script fault (Refused found) judges tells told is =
+    → IsRefusedModule emit m script told
+refused_unadmitted A emit m script fault Memory judges tells told is = absurd (cc)
+refused_unadmitted A emit m script fault (Refused found) judges tells told is =
     let same : found ≡ told = cc in
     inl (record { broken = fault; first = broken_rule m fault judges tells.1; told = sym same ∙ tells.0 })
 
 -- of a source that is not read
-pub answers_unread : (A : Type 0) (z : List ℕ) (script : Option (List ℕ)) (fault : ReadFault) (refusal : CompileRefusal)
-    → Reads (Err fault) (read_source z) → Tells fault refusal → Answers {A = A} (compiled z script) (Err refusal)
+pub answers_unread : (A : Type 0) (emit : Asked) (z : List ℕ) (script : Option (List ℕ)) (fault : ReadFault) (refusal : CompileRefusal)
+    → Reads (Err fault) (read_source z) → Tells fault refusal → Answers {A = A} (compiled emit z script) (Err refusal)
 unfolding compiled
-answers_unread A z script fault (Refused told) exact tells =
-    ap (λ (o : Result Module ReadFault). compiled_as o script) (exact tells.1) ∙ ap (λ (f : Fault). Err f) (sym tells.0)
-answers_unread A z script fault Memory exact tells = tt
+answers_unread A emit z script fault (Refused told) exact tells =
+    ap (λ (o : Result Module ReadFault). compiled_as emit o script) (exact tells.1) ∙ ap (λ (f : Fault). Err f) (sym tells.0)
+answers_unread A emit z script fault Memory exact tells = tt
 
 not_ok : {P : Type 0} (fault : ReadFault) (m : Module) → Reads (Err fault) (Ok m) → fault ≢ read.Memory → P
 not_ok fault m h sure = let e = h sure in absurd (cc)
@@ -174,10 +175,10 @@ told_is fault (Refused f) told tells is = let same : f ≡ told = cc in (sym sam
 told_is fault Memory told tells is = absurd (cc)
 
 -- a fault that is told of a source that is not read
-pub refused_unread : (A : Type 0) (z : List ℕ) (script : Option (List ℕ)) (fault : ReadFault) (refusal : CompileRefusal) → IsCause z fault
+pub refused_unread : (A : Type 0) (emit : Asked) (z : List ℕ) (script : Option (List ℕ)) (fault : ReadFault) (refusal : CompileRefusal) → IsCause z fault
     → IsFirstFault z fault → ((m : Module) → SourceText z m → Reads (Err fault) (Ok m)) → Tells fault refusal → (told : Fault)
-    → IsErrOf {T = Vec ℕ A} (Err refusal) (Refused told) → IsRefusedSource z script told
-refused_unread A z script fault refusal is_cause first only tells told is =
+    → IsErrOf {T = Vec ℕ A} (Err refusal) (Refused told) → IsRefusedSource emit z script told
+refused_unread A emit z script fault refusal is_cause first only tells told is =
     let same : refusal ≡ Refused told = cc in
     let cause = told_is fault refusal told tells same in
     inl (record {

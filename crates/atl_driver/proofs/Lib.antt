@@ -2,6 +2,12 @@ pub mod CompileLaws
 pub mod Completes
 pub mod Contents
 pub mod DecideLaws
+pub mod EmitLaws
+pub mod ExecLaws
+pub mod FactsLaws
+pub mod FirstFailing
+pub mod FormLaws
 pub mod HasOutputs
 pub mod ReadLemmas
+pub mod RunLaws
 pub mod ScheduleLaws

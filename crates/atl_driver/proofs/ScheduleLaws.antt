@@ -1,6 +1,7 @@
 -- From what the reader of scripts and the versions say to what the compiler says.
-use Rattle.std.proofs.Common.{◌≡◌, ◌≢◌, ◌⊎◌, inl, inr, ℕ, suc, List, [], ◌∷◌, length, map, refl, ap, sym, subst, ◌∙◌, IfErr, IfOk, Ok, Err, Some, None, arith}
-use Rattle.std.specs.Prelude.{IsErrOf}
+use Rattle.std.proofs.Common.{◌≡◌, ◌≢◌, ◌⊎◌, inl, inr, ℕ, suc, List, [], ◌∷◌, length, map, refl, ap, sym, subst, ◌∙◌, IfErr, IfOk, MatchResult, Ok, Err, Some}
+use Rattle.std.proofs.Common.{None, arith}
+use Rattle.std.specs.Prelude.{All, IsErrOf}
 use Rattle.std.specs.declared.option.Option.{Option}
 use Rattle.std.specs.declared.result.Result.{Result}
 use Rattle.std.specs.declared.vec.Vec.{Vec}
@@ -24,16 +25,25 @@ use Rattle.schedule_script.specs.Script.{Answers as Reads}
 use Rattle.schedule_script.specs.declared.fault.ScriptFault.{ScriptFault}
 use Rattle.schedule_script.specs.declared.fault.ScriptFault.TheVariants as script
 use Rattle.schedule_script.specs.declared.tree.Script.{Script}
-use Rattle.schedule_run.specs.Versions.{IsRefused, IsVersion, last_version_of}
+use Rattle.schedule_run.specs.Versions.{IsRefused, IsVersion, last_version_of, versions_of}
+use Rattle.stages_text.specs.Stages.{AreBlocks, stages}
 use Rattle.schedule_run.specs.declared.fault.StepFault.{StepFault}
 use Rattle.schedule_run.specs.declared.fault.StepKind.{StepKind}
 use Rattle.schedule_run.specs.declared.fault.StepKind.TheVariants as step
 use Rattle.atl_driver.specs.Compile.{Answers, TellsScript, TellsStep, final_fault_of, lowered_as, scheduled_as, script_fault_of, script_of, staged_as}
-use Rattle.atl_driver.specs.Compile.{step_fault_of}
-use Rattle.atl_driver.specs.Correct.{AreLoops, IsRefusedScript, IsTextUnder, IsScheduled, IsScriptOf, IsUnlowerable, IsUnscripted, IsUnstaged}
+use Rattle.atl_driver.specs.Compile.{emitted_as, step_fault_of, versions_as}
+use Rattle.atl_driver.specs.Correct.{AreLoops, AreVersions, IsEmitted, IsRefusedScript, IsTextUnder, IsScheduled, IsScriptOf, IsUnemitted, IsUnlowerable}
+use Rattle.atl_driver.specs.Correct.{IsUnscripted, IsUnstaged}
 use Rattle.atl_driver.specs.declared.compile.CompileRefusal.{CompileRefusal}
 use Rattle.atl_driver.specs.declared.compile.CompileRefusal.TheVariants.{Refused, Memory}
+use Rattle.atl_driver.specs.Asked.{Asked, Loops, Facts}
 use Rattle.atl_driver.specs.declared.fault.Fault.{Fault}
+use Rattle.facts_run.specs.Claims.{facts_text}
+use Rattle.atl_driver.proofs.FactsLaws.{fault_is}
+use Rattle.atl_driver.proofs.FirstFailing.{last_fails}
+use Rattle.atl_printer.specs.PrintableModule.{IsPrintableModule}
+use Rattle.printable_versions.specs.Versions.{IsToldModule}
+use Rattle.printable_versions.proofs.Versions.{versions_printable}
 
 named : (os : List OutputDecl) → length (map (λ (o : OutputDecl). o.name) os) ≡ length os
 named [] = refl
@@ -65,6 +75,12 @@ module _ (m v : Module) (is : IsVersion m v) where
   version_allowed s allowed = record {
     within = subst (λ (ds : List SizeDecl). IsWithin ds s) (sym version_sizes) allowed.within;
     assumed = ap (λ (cs : List Cmp). all_hold s [] cs) version_assumes ∙ allowed.assumed;
+  }
+
+  pub version_allowed_there : (s : List ℕ) → Allowed v s → Allowed m s
+  version_allowed_there s allowed = record {
+    within = subst (λ (ds : List SizeDecl). IsWithin ds s) version_sizes allowed.within;
+    assumed = ap (λ (cs : List Cmp). all_hold s [] cs) (sym version_assumes) ∙ allowed.assumed;
   }
 
   -- what is right for a version is right for the module
@@ -119,6 +135,12 @@ unscripted_of z o (Err fault) e refused only = λ sure.
 
 -- ---- what the parts of the compiler answer
 
+-- versions of a module that is read are printable
+pub versions_print : (m : Module) (s : Script) (ms all : List Module) → all ≡ ms → IsPrintableModule m → versions_of m s.steps ≡ Ok ms → All (IsVersion m) ms
+    → All IsToldModule all → All IsPrintableModule all
+versions_print m s ms all same p e each told =
+    subst (All IsPrintableModule) (sym same) (versions_printable m p s.steps ms e each (subst (All IsToldModule) same told))
+
 module _ {A : Type 0} where
   -- of a last version, with these final lines and marks
   pub staged_answers : (m last : Module) (s : Script) (fs : List FinalLine) (marks : List Path) (r : Result (Vec ℕ A) CompileRefusal)
@@ -144,15 +166,30 @@ module _ {A : Type 0} where
       }
   staged_loops m last s fs marks (Err e) is version lines marked h = tt
 
-  -- of a script that is read
-  pub scheduled_answers : (m : Module) (o : Option (List ℕ)) (s : Script) (r : Result (Vec ℕ A) CompileRefusal) → Reads (Ok s) (script_of o)
-      → Answers (staged_as (last_version_of m s.steps) s) r → Answers (scheduled_as (script_of o) m) r
-  scheduled_answers m o s r e h = subst (λ (read : Result Script ScriptFault). Answers (scheduled_as read m) r) (sym e) h
+  -- of all versions
+  pub versions_answers : (m : Module) (s : Script) (ms all : List Module) (r : Result (Vec ℕ A) CompileRefusal) → all ≡ ms → versions_of m s.steps ≡ Ok ms
+      → MatchResult r (λ text. (text.items ≡ stages all) × AreBlocks 0 all text.items) (λ refusal. refusal ≡ Memory)
+      → Answers (versions_as (versions_of m s.steps)) r
+  versions_answers m s ms all (Ok text) same e h = ap versions_as e ∙ ap (λ (xs : List Module). Ok (stages xs)) (sym same) ∙ ap (λ (t : List ℕ). Ok t) (sym h.0)
+  versions_answers m s ms all (Err (Refused fault)) same e h = absurd (cc)
+  versions_answers m s ms all (Err Memory) same e h = tt
 
-  pub scheduled_under : (m : Module) (o : Option (List ℕ)) (s : Script) (r : Result (Vec ℕ A) CompileRefusal) → IsScriptOf o s
-      → IfOk r (λ text. IsScheduled m s text.items) → IfOk r (λ text. IsTextUnder m o text.items)
-  scheduled_under m o s (Ok text) reads h = record { schedule = s; reads = reads; scheduled = h }
-  scheduled_under m o s (Err e) reads h = tt
+  pub versions_read : (m : Module) (s : Script) (ms all : List Module) (r : Result (Vec ℕ A) CompileRefusal) → all ≡ ms → versions_of m s.steps ≡ Ok ms
+      → All (IsVersion m) ms → MatchResult r (λ text. (text.items ≡ stages all) × AreBlocks 0 all text.items) (λ refusal. refusal ≡ Memory)
+      → IfOk r (λ text. AreVersions m s text.items)
+  versions_read m s ms all (Ok text) same e each h =
+      record { versions = ms; steps = e; each = each; blocks = subst (λ (xs : List Module). AreBlocks 0 xs text.items) same h.1 }
+  versions_read m s ms all (Err refusal) same e each h = tt
+
+  -- of a script that is read
+  pub scheduled_answers : (emit : Asked) (m : Module) (o : Option (List ℕ)) (s : Script) (r : Result (Vec ℕ A) CompileRefusal) → Reads (Ok s) (script_of o)
+      → Answers (emitted_as emit m s) r → Answers (scheduled_as emit (script_of o) m) r
+  scheduled_answers emit m o s r e h = subst (λ (read : Result Script ScriptFault). Answers (scheduled_as emit read m) r) (sym e) h
+
+  pub scheduled_under : (emit : Asked) (m : Module) (o : Option (List ℕ)) (s : Script) (r : Result (Vec ℕ A) CompileRefusal) → IsScriptOf o s
+      → IfOk r (λ text. IsEmitted emit m s text.items) → IfOk r (λ text. IsTextUnder emit m o text.items)
+  scheduled_under emit m o s (Ok text) reads h = record { schedule = s; reads = reads; scheduled = h }
+  scheduled_under emit m o s (Err e) reads h = tt
 
   -- the cause of a fault under a schedule
   refused_staged : (m : Module) (s : Script) (r : Result (Vec ℕ A) CompileRefusal) → Answers (staged_as (last_version_of m s.steps) s) r
@@ -176,11 +213,40 @@ module _ {A : Type 0} where
           let same : step_fault_of failing ≡ fault = cc in
           inl (record { failing = failing; first = e; told = sym same })
 
-  pub refused_scheduled : (m : Module) (o : Option (List ℕ)) (s : Script) (r : Result (Vec ℕ A) CompileRefusal) → IsScriptOf o s
-      → Answers (staged_as (last_version_of m s.steps) s) r → (fault : Fault) → IsErrOf r (Refused fault) → IsRefusedScript m o fault
-  refused_scheduled m o s r reads h fault is = inr (record { schedule = s; reads = reads; why = refused_staged m s r h fault is })
+  pub refused_versions : (m : Module) (s : Script) (r : Result (Vec ℕ A) CompileRefusal) → Answers (versions_as (versions_of m s.steps)) r
+      → (fault : Fault) → IsErrOf r (Refused fault) → IsUnstaged m s fault
+  refused_versions m s (Ok text) h fault is = absurd (cc)
+  refused_versions m s (Err Memory) h fault is = absurd (cc)
+  refused_versions m s (Err (Refused told)) h fault is =
+      let same : told ≡ fault = cc in
+      by (versions_of m s.steps) refl (h ∙ ap (λ (f : Fault). Err f) same)
+    where
+      by : (o : Result (List Module) StepFault) → versions_of m s.steps ≡ o → versions_as o ≡ Err fault → IsUnstaged m s fault
+      by (Ok ms) e h = absurd (cc)
+      by (Err failing) e h =
+          let same : step_fault_of failing ≡ fault = cc in
+          record { failing = failing; first = last_fails m s.steps failing e; told = sym same }
 
-failing : (want : Result Module StepFault) (fault : StepFault) (kind : StepKind) → IsRefused want fault kind → kind ≢ step.Memory → want ≡ Err fault
+  pub refused_facts : (m : Module) (s : Script) (r : Result (Vec ℕ A) CompileRefusal) → Answers (emitted_as Facts m s) r
+      → (fault : Fault) → IsErrOf r (Refused fault) → IsUnemitted Facts m s fault
+  refused_facts m s (Ok text) h fault is = absurd (cc)
+  refused_facts m s (Err Memory) h fault is = absurd (cc)
+  refused_facts m s (Err (Refused told)) h fault is =
+      let same : told ≡ fault = cc in
+      let of = fault_is (staged_as (last_version_of m s.steps) s) (facts_text m s) fault (h ∙ ap (λ (f : Fault). Err f) same) in
+      let due : Answers {A = A} (staged_as (last_version_of m s.steps) s) (Err (Refused fault)) = of.0 in
+      (refused_staged m s (Err (Refused fault)) due fault refl, of.1)
+
+  pub refused_loops : (m : Module) (s : Script) (r : Result (Vec ℕ A) CompileRefusal) → Answers (emitted_as Loops m s) r
+      → (fault : Fault) → IsErrOf r (Refused fault) → IsUnemitted Loops m s fault
+  refused_loops m s r h fault is = refused_staged m s r h fault is
+
+  pub refused_scheduled : (emit : Asked) (m : Module) (o : Option (List ℕ)) (s : Script) (r : Result (Vec ℕ A) CompileRefusal) → IsScriptOf o s
+      → ((fault : Fault) → IsErrOf r (Refused fault) → IsUnemitted emit m s fault) → (fault : Fault) → IsErrOf r (Refused fault) → IsRefusedScript emit m o
+      fault
+  refused_scheduled emit m o s r reads h fault is = inr (record { schedule = s; reads = reads; why = h fault is })
+
+pub failing : {B : Type 0} (want : Result B StepFault) (fault : StepFault) (kind : StepKind) → IsRefused want fault kind → kind ≢ step.Memory → want ≡ Err fault
 failing want fault step.NoSuchRule h n = h
 failing want fault step.NoSuchPath h n = h
 failing want fault (step.Rule broken) h n = h
@@ -200,18 +266,25 @@ unstaged_answers A m s fault (Refused told) refused tells =
     ap (λ (o : Result Module StepFault). staged_as o s) (failing (last_version_of m s.steps) fault fault.kind refused tells.1)
     ∙ ap (λ (f : Fault). Err f) (sym tells.0)
 
+-- of a step that fails, where all versions are asked for
+pub unversioned_answers : (A : Type 0) (m : Module) (s : Script) (fault : StepFault) (refusal : CompileRefusal)
+    → IsRefused (versions_of m s.steps) fault fault.kind → TellsStep fault refusal → Answers {A = A} (versions_as (versions_of m s.steps)) (Err refusal)
+unversioned_answers A m s fault Memory refused tells = tt
+unversioned_answers A m s fault (Refused told) refused tells =
+    ap versions_as (failing (versions_of m s.steps) fault fault.kind refused tells.1) ∙ ap (λ (f : Fault). Err f) (sym tells.0)
+
 -- of a script that is not read
-pub unscripted_answers : (A : Type 0) (m : Module) (o : Option (List ℕ)) (fault : ScriptFault) (refusal : CompileRefusal)
-    → Reads (Err fault) (script_of o) → TellsScript fault refusal → Answers {A = A} (scheduled_as (script_of o) m) (Err refusal)
-unscripted_answers A m o fault Memory exact tells = tt
-unscripted_answers A m o fault (Refused told) exact tells =
-    ap (λ (read : Result Script ScriptFault). scheduled_as read m) (exact tells.1) ∙ ap (λ (f : Fault). Err f) (sym tells.0)
+pub unscripted_answers : (A : Type 0) (emit : Asked) (m : Module) (o : Option (List ℕ)) (fault : ScriptFault) (refusal : CompileRefusal)
+    → Reads (Err fault) (script_of o) → TellsScript fault refusal → Answers {A = A} (scheduled_as emit (script_of o) m) (Err refusal)
+unscripted_answers A emit m o fault Memory exact tells = tt
+unscripted_answers A emit m o fault (Refused told) exact tells =
+    ap (λ (read : Result Script ScriptFault). scheduled_as emit read m) (exact tells.1) ∙ ap (λ (f : Fault). Err f) (sym tells.0)
 
 -- a fault that is told of a script that is not read
-pub refused_unscripted : (A : Type 0) (m : Module) (o : Option (List ℕ)) (fault : ScriptFault) (refusal : CompileRefusal)
+pub refused_unscripted : (A : Type 0) (emit : Asked) (m : Module) (o : Option (List ℕ)) (fault : ScriptFault) (refusal : CompileRefusal)
     → (fault ≢ script.Memory → IsUnscripted o (script_fault_of fault)) → TellsScript fault refusal → (told : Fault)
-    → IsErrOf {T = Vec ℕ A} (Err refusal) (Refused told) → IsRefusedScript m o told
-refused_unscripted A m o fault Memory cause tells told is = absurd (cc)
-refused_unscripted A m o fault (Refused found) cause tells told is =
+    → IsErrOf {T = Vec ℕ A} (Err refusal) (Refused told) → IsRefusedScript emit m o told
+refused_unscripted A emit m o fault Memory cause tells told is = absurd (cc)
+refused_unscripted A emit m o fault (Refused found) cause tells told is =
     let same : found ≡ told = cc in
     inl (subst (λ (f : Fault). IsUnscripted o f) (sym tells.0 ∙ same) (cause tells.1))

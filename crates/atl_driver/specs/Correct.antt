@@ -1,5 +1,5 @@
--- The compiler is correct.
-use Rattle.std.specs.Prelude.{◌≡◌, ◌≢◌, ◌⊎◌, ℕ, List, Ok, Err, Some, None}
+-- The compiler is correct, and so is what else is told of a source.
+use Rattle.std.specs.Prelude.{◌≡◌, ◌≢◌, ◌⊎◌, All, ℕ, false, List, Ok, Err, Some, None}
 use Rattle.std.specs.declared.option.Option.{Option}
 use Rattle.term_tree.specs.declared.term.Module.{Module}
 use Rattle.term_tree.specs.declared.term.Path.{Path}
@@ -17,7 +17,7 @@ use Rattle.schedule_script.specs.Script.{IsRefusedText, ScriptText}
 use Rattle.schedule_script.specs.declared.fault.ScriptFault.{ScriptFault}
 use Rattle.schedule_script.specs.declared.fault.ScriptFault.TheVariants as unreadable
 use Rattle.schedule_script.specs.declared.tree.Script.{Script}
-use Rattle.schedule_run.specs.Versions.{IsVersion, last_version_of}
+use Rattle.schedule_run.specs.Versions.{IsVersion, last_version_of, versions_of}
 use Rattle.schedule_run.specs.declared.fault.StepFault.{StepFault}
 use Rattle.final_rules.specs.Rules.{final_fault}
 use Rattle.final_rules.specs.declared.fault.FinalFault.{FinalFault}
@@ -26,10 +26,22 @@ use Rattle.lowering_laws.specs.Lowered.{loops_of}
 use Rattle.lowering_laws.specs.Nest.{module_nest, nests_of_program}
 use Rattle.c_print.specs.Program.{canonical_text}
 use Rattle.c_text.specs.Statement.{CText}
+use Rattle.c_execution.specs.Executed.{IsExecFault, IsExecuted}
+use Rattle.c_execution.specs.declared.fault.ExecFault.{ExecFault}
+use Rattle.c_execution.specs.declared.fault.ExecFault.TheVariants as exec
+use Rattle.run_text.specs.declared.fault.RunFault.{RunFault}
+use Rattle.run_text.specs.declared.fault.RunFault.TheVariants as run
+use Rattle.version_run.specs.VersionRun.{IsDenoted, IsVersionFault}
+use Rattle.trial_text.specs.TrialText.{trial_script, trial_source}
+use Rattle.trial_run.specs.TrialRun.{IsTrialOf}
+use Rattle.stages_text.specs.Stages.{AreBlocks}
+use Rattle.facts_run.specs.Claims.{facts_text}
 use Rattle.atl_driver.specs.declared.command.Verb.{Verb}
-use Rattle.atl_driver.specs.declared.command.Verb.TheVariants.{Compile}
+use Rattle.atl_driver.specs.declared.command.Verb.TheVariants.{Compile, Exec, Stages, Trial, Facts as FactsOf, Run as RunOf}
+use Rattle.atl_driver.specs.Asked.{Asked, Errand, OfTrial, OnText, Loops, Versions, Facts, Run, given_to}
 use Rattle.atl_driver.specs.declared.fault.Fault.{Fault}
-use Rattle.atl_driver.specs.Compile.{admission_fault_of, fault_of, final_fault_of, first_content, no_steps, script_fault_of, second_content, step_fault_of}
+use Rattle.atl_driver.specs.Compile.{admission_fault_of, exec_fault_of, fault_of, final_fault_of, first_content, given_content, is_unshown, no_steps}
+use Rattle.atl_driver.specs.Compile.{run_fault_of, script_content, script_fault_of, second_content, step_fault_of}
 
 -- The module keeps the rules of the final form with these final lines and marks. The text is the canonical text of its loops, and reads back as that
 -- program alone, by the grammar of C texts.
@@ -58,6 +70,38 @@ pub record IsScheduled (origin : Module) (schedule : Script) (text : List ℕ) :
   pub loops : AreLoops last schedule.finals schedule.parallel text
   pub correct : IsCorrect origin loops.program
 
+-- The steps of the schedule lead from this module to these versions, itself the first, each of which denotes what the module does. The text has a block for
+-- each, in order, and the text below the line of a block is that of its version, and of no other module.
+pub record AreVersions (origin : Module) (schedule : Script) (text : List ℕ) : Type 0 where
+  pub versions : List Module
+  pub steps : versions_of origin schedule.steps ≡ Ok versions
+  pub each : All (IsVersion origin) versions
+  pub blocks : AreBlocks 0 versions text
+
+-- The given text gives sizes that this module allows and the words of tensors of the declared extents. On a text each line tells the words of what the module
+-- denotes of them; the line of a trial has their sum, and the nodes of the last version and the bytes of the C text of its loops. The stores are those of the
+-- loops at these sizes.
+abbrev pub IsToldOf : Errand → Module → Prog → Module → List ℕ → Type 0
+IsToldOf (OnText given) last program origin text = IsDenoted origin program given text
+IsToldOf (OfTrial steps) last program origin text = IsTrialOf steps last program origin text
+
+-- The steps of the schedule lead from this module to a last version, which keeps the rules of the final form. What is told of a run of its loops is what the
+-- module without any step denotes.
+pub record IsLeft (origin : Module) (schedule : Script) (errand : Errand) (text : List ℕ) : Type 0 where
+  pub last : Module
+  pub steps : last_version_of origin schedule.steps ≡ Ok last
+  pub version : IsVersion origin last
+  pub accepted : final_fault last schedule.finals schedule.parallel ≡ None
+  pub told : IsToldOf errand last (loops_of last schedule.parallel) origin text
+
+-- What is asked for is made of the module under the schedule. The facts are a block for each condition of each step, and then for each goal of the last
+-- version, up to and with the first that is not shown.
+abbrev pub IsEmitted : Asked → Module → Script → List ℕ → Type 0
+IsEmitted Loops origin schedule text = IsScheduled origin schedule text
+IsEmitted Versions origin schedule text = AreVersions origin schedule text
+IsEmitted Facts origin schedule text = text ≡ facts_text origin schedule
+IsEmitted (Run errand) origin schedule text = IsLeft origin schedule errand text
+
 -- the source is the text of exactly one module
 pub record IsTextOf (source : List ℕ) (origin : Module) : Type 0 where
   pub reads : SourceText source origin
@@ -79,19 +123,21 @@ pub record IsAdmitted (origin : Module) : Type 0 where
   pub sound : IsSound origin
   pub example : Allowed origin origin.example
 
--- the script is that of exactly one schedule, and the text is that of the loops of the last version to which its steps lead from the module
-pub record IsTextUnder (origin : Module) (script : Option (List ℕ)) (text : List ℕ) : Type 0 where
+-- the script is that of exactly one schedule, and the text is what is made of the module under it
+pub record IsTextUnder (emit : Asked) (origin : Module) (script : Option (List ℕ)) (text : List ℕ) : Type 0 where
   pub schedule : Script
   pub reads : IsScriptOf script schedule
-  pub scheduled : IsScheduled origin schedule text
+  pub scheduled : IsEmitted emit origin schedule text
 
 -- The source is the text of exactly one module, which is sound and whose example is a choice of allowed sizes, the script is the text of exactly one
--- schedule, and the text is that of the loops of the last version to which its steps lead; they leave what the module of the source denotes.
-pub record IsCompiled (source : List ℕ) (script : Option (List ℕ)) (text : List ℕ) : Type 0 where
+-- schedule, and the text is what is made of both: that of the loops of the last version to which its steps lead, which leave what the module of the source
+-- denotes; or that of all versions, each of which denotes what the module of the source does; or that of what the steps and the last version have to show;
+-- or that of what a run of these loops tells, which is what the module of the source denotes.
+pub record IsCompiled (emit : Asked) (source : List ℕ) (script : Option (List ℕ)) (text : List ℕ) : Type 0 where
   pub origin : Module
   pub reads : IsTextOf source origin
   pub admitted : IsAdmitted origin
-  pub under : IsTextUnder origin script text
+  pub under : IsTextUnder emit origin script text
 
 -- the source is the text of no module, and this is the cause, the first one in the text
 pub record IsUnread (source : List ℕ) (fault : Fault) : Type 0 where
@@ -132,34 +178,74 @@ pub record IsUnlowerable (origin : Module) (schedule : Script) (fault : Fault) :
   pub first : final_fault last schedule.finals schedule.parallel ≡ Some broken
   pub told : fault ≡ final_fault_of broken
 
--- the script is that of exactly one schedule, under which this is the first fault of the module: of its steps in order, then of its last version
-pub record IsRefusedSchedule (origin : Module) (script : Option (List ℕ)) (fault : Fault) : Type 0 where
+-- running this program of the module on the given text comes to no text, and this is the first cause
+pub record IsUnran (origin : Module) (program : Prog) (given : List ℕ) (fault : Fault) : Type 0 where
+  pub cause : RunFault
+  pub told : fault ≡ run_fault_of cause
+  pub is_cause : IsVersionFault origin program given cause
+  pub fails : cause ≢ run.Memory
+
+-- the steps of the schedule lead to a last version, which keeps the rules of the final form, and this is the first fault of the given text and the run
+pub record IsUnrun (origin : Module) (schedule : Script) (given : List ℕ) (fault : Fault) : Type 0 where
+  pub last : Module
+  pub steps : last_version_of origin schedule.steps ≡ Ok last
+  pub accepted : final_fault last schedule.finals schedule.parallel ≡ None
+  pub unran : IsUnran origin (loops_of last schedule.parallel) given fault
+
+-- the first fault under a schedule: of the steps in order; then, where its loops are asked for, of the last version; and where its facts are, one that is not
+-- that of a condition or a goal that is not shown; and where a run is, of the given text and the run
+abbrev pub IsUnemitted : Asked → Module → Script → Fault → Type 0
+IsUnemitted Loops origin schedule fault = IsUnstaged origin schedule fault ⊎ IsUnlowerable origin schedule fault
+IsUnemitted Versions origin schedule fault = IsUnstaged origin schedule fault
+IsUnemitted Facts origin schedule fault = (IsUnstaged origin schedule fault ⊎ IsUnlowerable origin schedule fault) × (is_unshown fault ≡ false)
+IsUnemitted (Run errand) origin schedule fault =
+    (IsUnstaged origin schedule fault ⊎ IsUnlowerable origin schedule fault) ⊎ IsUnrun origin schedule (given_to errand) fault
+
+-- the script is that of exactly one schedule, under which this is the first fault of the module
+pub record IsRefusedSchedule (emit : Asked) (origin : Module) (script : Option (List ℕ)) (fault : Fault) : Type 0 where
   pub schedule : Script
   pub reads : IsScriptOf script schedule
-  pub why : IsUnstaged origin schedule fault ⊎ IsUnlowerable origin schedule fault
+  pub why : IsUnemitted emit origin schedule fault
 
 -- why a module that is admitted has no text under a script: reading the script first
-abbrev pub IsRefusedScript : Module → Option (List ℕ) → Fault → Type 0
-IsRefusedScript origin script fault = IsUnscripted script fault ⊎ IsRefusedSchedule origin script fault
+abbrev pub IsRefusedScript : Asked → Module → Option (List ℕ) → Fault → Type 0
+IsRefusedScript emit origin script fault = IsUnscripted script fault ⊎ IsRefusedSchedule emit origin script fault
 
 -- why a module has no text under a script: its own rules first
-abbrev pub IsRefusedModule : Module → Option (List ℕ) → Fault → Type 0
-IsRefusedModule origin script fault = IsUnadmitted origin fault ⊎ (Accepted origin × IsRefusedScript origin script fault)
+abbrev pub IsRefusedModule : Asked → Module → Option (List ℕ) → Fault → Type 0
+IsRefusedModule emit origin script fault = IsUnadmitted origin fault ⊎ (Accepted origin × IsRefusedScript emit origin script fault)
 
 -- the source is the text of exactly one module, and this is its first fault under the script
-pub record IsRefusedOrigin (source : List ℕ) (script : Option (List ℕ)) (fault : Fault) : Type 0 where
+pub record IsRefusedOrigin (emit : Asked) (source : List ℕ) (script : Option (List ℕ)) (fault : Fault) : Type 0 where
   pub origin : Module
   pub reads : IsTextOf source origin
-  pub why : IsRefusedModule origin script fault
+  pub why : IsRefusedModule emit origin script fault
 
 -- why a source has no text under a script: reading the source first
-abbrev pub IsRefusedSource : List ℕ → Option (List ℕ) → Fault → Type 0
-IsRefusedSource source script fault = IsUnread source fault ⊎ IsRefusedOrigin source script fault
+abbrev pub IsRefusedSource : Asked → List ℕ → Option (List ℕ) → Fault → Type 0
+IsRefusedSource emit source script fault = IsUnread source fault ⊎ IsRefusedOrigin emit source script fault
+
+-- executing the C text on the given text comes to no text, and this is the first cause
+pub record IsUnexecuted (c given : List ℕ) (fault : Fault) : Type 0 where
+  pub cause : ExecFault
+  pub told : fault ≡ exec_fault_of cause
+  pub is_cause : IsExecFault c given cause
+  pub fails : cause ≢ exec.Run run.Memory
 
 -- the text is right for the contents of a command's files
 abbrev pub IsRight : Verb → List (List ℕ) → List ℕ → Type 0
-IsRight Compile contents text = IsCompiled (first_content contents) (second_content contents) text
+IsRight Compile contents text = IsCompiled Loops (first_content contents) (second_content contents) text
+IsRight Stages contents text = IsCompiled Versions (first_content contents) (Some (script_content contents)) text
+IsRight FactsOf contents text = IsCompiled Facts (first_content contents) (Some (script_content contents)) text
+IsRight RunOf contents text = IsCompiled (Run (OnText (given_content contents))) (first_content contents) (Some (script_content contents)) text
+IsRight Exec contents text = IsExecuted (first_content contents) (script_content contents) text
+IsRight (Trial steps) contents text = IsCompiled (Run (OfTrial steps)) (trial_source steps) (Some (trial_script steps)) text
 
 -- the fault has its cause in the contents of a command's files
 abbrev pub HasFault : Verb → List (List ℕ) → Fault → Type 0
-HasFault Compile contents fault = IsRefusedSource (first_content contents) (second_content contents) fault
+HasFault Compile contents fault = IsRefusedSource Loops (first_content contents) (second_content contents) fault
+HasFault Stages contents fault = IsRefusedSource Versions (first_content contents) (Some (script_content contents)) fault
+HasFault FactsOf contents fault = IsRefusedSource Facts (first_content contents) (Some (script_content contents)) fault
+HasFault RunOf contents fault = IsRefusedSource (Run (OnText (given_content contents))) (first_content contents) (Some (script_content contents)) fault
+HasFault Exec contents fault = IsUnexecuted (first_content contents) (script_content contents) fault
+HasFault (Trial steps) contents fault = IsRefusedSource (Run (OfTrial steps)) (trial_source steps) (Some (trial_script steps)) fault

@@ -1,11 +1,12 @@
 -- The forms of the command line.
-use Rattle.std.specs.Prelude.{ℕ, Bool, false, not, ◌==◌, List, [], ◌∷◌, None, Some, if◌then◌else◌, bytes_eq, codes, map}
+use Rattle.std.specs.Prelude.{ℕ, ◌≤◌, ◌-◌, Bool, false, not, ◌==◌, ◌||◌, ◌&&◌, nat_le, List, [], ◌∷◌, length, None, Some, if◌then◌else◌, bytes_eq, codes, map}
+use Rattle.std.specs.Prelude.{⊤}
 use Rattle.std.specs.List.{list_all}
 use Rattle.std.specs.declared.option.Option.{Option}
 use Rattle.std.specs.declared.string.String.{String}
 use Rattle.std.specs.String.{string_bytes}
 use Rattle.atl_driver.specs.declared.command.Verb.{Verb}
-use Rattle.atl_driver.specs.declared.command.Verb.TheVariants.{Compile}
+use Rattle.atl_driver.specs.declared.command.Verb.TheVariants.{Compile, Exec, Stages, Facts, Run, Trial}
 use Rattle.atl_driver.specs.declared.command.Command.{Command}
 
 -- a word that names a file is not empty and does not begin with a dash
@@ -27,29 +28,58 @@ module _ {A : Type 0} where
   abbrev pub all_file_words : List (String A) → Bool
   all_file_words words = list_all (λ word. is_file_word (string_bytes word)) words
 
--- `compile`, and nothing else
-abbrev pub compile_of : List ℕ → Option Verb
-compile_of name = if bytes_eq name (codes "compile") then Some Compile else None
+-- the command of this name, which has files alone behind it
+abbrev pub verb_named : List ℕ → Option Verb
+verb_named name =
+    if bytes_eq name (codes "compile") then Some Compile
+    else (if bytes_eq name (codes "stages") then Some Stages
+    else (if bytes_eq name (codes "facts") then Some Facts
+    else (if bytes_eq name (codes "run") then Some Run else (if bytes_eq name (codes "exec") then Some Exec else None))))
 
--- the command of this name with these words behind it: a source, or a source and a script
-abbrev pub verb_of : List ℕ → List (List ℕ) → Option Verb
-verb_of name [] = None
-verb_of name (source ∷ []) = compile_of name
-verb_of name (source ∷ script ∷ []) = compile_of name
-verb_of name (source ∷ script ∷ next ∷ more) = None
+-- the number of a trial, 1 to 16: a digit from 1 to 9, or 1 and a digit from 0 to 6
+abbrev pub trial_number : List ℕ → Option ℕ
+trial_number [] = None
+trial_number (digit ∷ []) = if nat_le 49 digit && nat_le digit 57 then Some (digit - 48) else None
+trial_number (ten ∷ digit ∷ []) = if ten == 49 && (nat_le 48 digit && nat_le digit 54) then Some (digit - 38) else None
+trial_number (ten ∷ digit ∷ next ∷ rest) = None
 
--- the form of a command with its files
-abbrev pub form_with : Option Verb → List (List ℕ) → Option Form
-form_with None files = None
-form_with (Some verb) files = Some (record { verb = verb; files = files })
+-- the trial of this number
+abbrev pub trial_of : Option ℕ → Option Verb
+trial_of None = None
+trial_of (Some steps) = Some (Trial steps)
+
+-- a command takes so many files: a source, or a source and a script; a C text and a given text; a source, a script and a given text; a trial none
+abbrev pub takes : Verb → ℕ → Bool
+takes Compile files = files == 1 || files == 2
+takes Stages files = files == 2
+takes Facts files = files == 2
+takes Run files = files == 3
+takes Exec files = files == 2
+takes (Trial steps) files = files == 0
 
 module _ {A : Type 0} where
+  -- the form of a command with the words behind it, where they name as many files as it takes
+  abbrev pub form_with : Option Verb → List (String A) → Option Form
+  form_with None files = None
+  form_with (Some verb) files =
+      if all_file_words files && takes verb (length files) then Some (record { verb = verb; files = texts files }) else None
+
+  -- the form of a trial with the words behind it: its number alone
+  abbrev pub trial_form : List (String A) → Option Form
+  trial_form [] = None
+  trial_form (number ∷ files) = form_with (trial_of (trial_number (string_bytes number))) files
+
   -- the form of the words, if they have one
   abbrev pub form_of : List (String A) → Option Form
   form_of [] = None
-  form_of (name ∷ files) = if all_file_words files then form_with (verb_of (string_bytes name) (texts files)) (texts files) else None
+  form_of (name ∷ words) = if bytes_eq (string_bytes name) (codes "trial") then trial_form words else form_with (verb_named (string_bytes name)) words
 
 -- a command as its form
 abbrev pub command_seen : Option Command → Option Form
 command_seen None = None
 command_seen (Some command) = Some (record { verb = command.verb; files = texts command.files.now })
+
+-- the trial of a form has a number up to 16
+abbrev pub IsInRange : Verb → Type 0
+IsInRange (Trial steps) = steps ≤ 16
+IsInRange _ = ⊤

@@ -1,3 +1,4 @@
+pub mod Asked
 pub mod Compile
 pub mod Correct
 pub mod Form

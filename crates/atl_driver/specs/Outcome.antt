@@ -20,7 +20,7 @@ status_of ReadFault = status.ReadFault
 status_of TooLong = status.TooLong 1048577
 status_of Memory = status.Memory
 
--- the status after a compilation, where nothing fails
+-- the status after a decision, where nothing fails
 abbrev pub status_after : Result (List ℕ) Fault → Status
 status_after (Ok text) = status.Done
 status_after (Err fault) = status.Refused fault

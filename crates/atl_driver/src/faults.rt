@@ -72,7 +72,7 @@ pub fn unread(alloc: Global, fault: ReadFault) -> CompileRefusal
 }
 
 /// The refusal with one field.
-fn refused(alloc: Global, number: u8, field: FaultField) -> CompileRefusal
+pub(crate) fn refused(alloc: Global, number: u8, field: FaultField) -> CompileRefusal
     ensures { TellsFault (one_field number field) result }
 {
     match with_field(alloc, number, field) {

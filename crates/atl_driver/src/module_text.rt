@@ -1,43 +1,24 @@
-// From a module that was read, and the text of a script, to the C text.
+// From a module that was read, and the text of a script, to what is made of both.
 ghost use Rattle.std.specs.Prelude.{◌≡◌, ◌≢◌, ◌≤◌, [], length, true, IfErr, IfOk, IfSome, IsErrOf, option_copied};
-ghost use Rattle.schedule_run.specs.Versions.{MayRun, last_version_of};
+ghost use Rattle.atl_printer.specs.PrintableModule.{IsPrintableModule};
+ghost use Rattle.schedule_run.specs.Versions.{MayRun};
 ghost use Rattle.schedule_script.specs.Script.{Answers as Reads};
 ghost use Rattle.source_grammar.specs.Source.{AreShallow, nodes};
 ghost use Rattle.term_tree.specs.Modules.{module_scoped};
-ghost use Rattle.atl_driver.specs.Compile.{Answers, module_compiled, scheduled_as, script_fault_of, script_of, staged_as};
-ghost use Rattle.atl_driver.specs.Correct.{IsAdmitted, IsRefusedModule, IsRefusedScript, IsTextUnder, IsScheduled, IsScriptOf, IsUnscripted};
+ghost use Rattle.atl_driver.specs.Asked.{IsShort, asked_for};
+ghost use Rattle.atl_driver.specs.Compile.{Answers, module_compiled, scheduled_as, script_fault_of, script_of};
+ghost use Rattle.atl_driver.specs.Correct.{IsAdmitted, IsRefusedModule, IsRefusedScript, IsTextUnder, IsScriptOf, IsUnscripted};
 ghost use Rattle.atl_driver.specs.declared.fault.Fault.{Fault as FaultValue};
 
 use crate::compile::CompileRefusal;
-use crate::faults::{unadmitted, unscripted, unstaged};
-use crate::last_text::last_text;
+use crate::emit::{Emit, emitted};
+use crate::faults::{unadmitted, unscripted};
 use admission::admit;
 use owned_values::spent;
-use schedule_run::last_version;
 use schedule_script::{Script, ScriptFault, read_script};
 use sqlite_items::Items;
 use std::alloc::Global;
 use term_tree::Module;
-
-/// The text of the last version of a schedule, or its first fault.
-fn staged_text(alloc: Global, origin: Module, schedule: &Script) -> Result<Vec<u8>, CompileRefusal>
-    requires may { MayRun origin }
-    requires some { origin.outputs ≢ [] }
-    requires shallow { AreShallow origin.outputs }
-    requires outputs { length origin.outputs ≤ 2147483647 }
-    ensures answers { Answers (staged_as (last_version_of origin schedule.now.steps) schedule.now) result }
-    ensures loops { IfOk result (λ text. IsScheduled origin schedule.now text.items) }
-{
-    match last_version(alloc, origin, schedule) {
-        Ok(last) => {
-            let finals = schedule.finals.as_slice();
-            let text = last_text(alloc, &last, finals, schedule.parallel.as_slice());
-            spent(last);
-            text
-        }
-        Err(fault) => Err(unstaged(alloc, fault)),
-    }
-}
 
 /// The schedule of a text; that without steps where there is none.
 fn read_schedule(alloc: Global, script: Option<&[u8]>) -> Result<Script, ScriptFault>
@@ -59,6 +40,7 @@ fn read_schedule(alloc: Global, script: Option<&[u8]>) -> Result<Script, ScriptF
 /// The text of a sound module under the text of a script, or its first fault.
 fn scheduled_text(
     alloc: Global,
+    emit: Emit<'_>,
     origin: Module,
     script: Option<&[u8]>,
 ) -> Result<Vec<u8>, CompileRefusal>
@@ -66,14 +48,16 @@ fn scheduled_text(
     requires some { origin.outputs ≢ [] }
     requires shallow { AreShallow origin.outputs }
     requires outputs { length origin.outputs ≤ 2147483647 }
+    requires printable { IsPrintableModule origin }
     requires script { IfSome (option_copied script) (λ text. length text ≤ 2147483647) }
-    ensures answers { Answers (scheduled_as (script_of (option_copied script.entry)) origin) result }
-    ensures under { IfOk result (λ text. IsTextUnder origin (option_copied script.entry) text.items) }
-    ensures refused { (fault : FaultValue) → IsErrOf result (CompileRefusal.Refused fault) → IsRefusedScript origin (option_copied script.entry) fault }
+    requires given { IsShort (asked_for emit) }
+    ensures answers { Answers (scheduled_as (asked_for emit.entry) (script_of (option_copied script.entry)) origin) result }
+    ensures under { IfOk result (λ text. IsTextUnder (asked_for emit.entry) origin (option_copied script.entry) text.items) }
+    ensures refused { (fault : FaultValue) → IsErrOf result (CompileRefusal.Refused fault) → IsRefusedScript (asked_for emit.entry) origin (option_copied script.entry) fault }
 {
     match read_schedule(alloc, script) {
         Ok(schedule) => {
-            let text = staged_text(alloc, origin, &schedule);
+            let text = emitted(alloc, emit, origin, &schedule);
             spent(schedule);
             text
         }
@@ -87,6 +71,7 @@ fn scheduled_text(
 /// The text of a module that was read, under the text of a script, or its first fault.
 pub fn module_text(
     alloc: Global,
+    emit: Emit<'_>,
     origin: Module,
     script: Option<&[u8]>,
 ) -> Result<Vec<u8>, CompileRefusal>
@@ -98,13 +83,15 @@ pub fn module_text(
     requires inputs { length origin.inputs ≤ 2147483647 }
     requires outputs { length origin.outputs ≤ 2147483647 }
     requires example { length origin.example ≡ length origin.sizes }
+    requires printable { IsPrintableModule origin }
     requires script { IfSome (option_copied script) (λ text. length text ≤ 2147483647) }
-    ensures answers { Answers (module_compiled origin (option_copied script.entry)) result }
-    ensures under { IfOk result (λ text. IsAdmitted origin × IsTextUnder origin (option_copied script.entry) text.items) }
-    ensures refused { (fault : FaultValue) → IsErrOf result (CompileRefusal.Refused fault) → IsRefusedModule origin (option_copied script.entry) fault }
+    requires given { IsShort (asked_for emit) }
+    ensures answers { Answers (module_compiled (asked_for emit.entry) origin (option_copied script.entry)) result }
+    ensures under { IfOk result (λ text. IsAdmitted origin × IsTextUnder (asked_for emit.entry) origin (option_copied script.entry) text.items) }
+    ensures refused { (fault : FaultValue) → IsErrOf result (CompileRefusal.Refused fault) → IsRefusedModule (asked_for emit.entry) origin (option_copied script.entry) fault }
 {
     match admit(alloc, &origin) {
-        Ok(()) => scheduled_text(alloc, origin, script),
+        Ok(()) => scheduled_text(alloc, emit, origin, script),
         Err(fault) => {
             spent(origin);
             Err(unadmitted(alloc, fault))

@@ -30,7 +30,10 @@ fn a_file_that_is_not_read_has_its_line(rt: HostRuntime) -> Result<(), Fail> {
 #[test]
 fn other_words_are_usage(rt: HostRuntime) -> Result<(), Fail> {
     let alloc = rt.alloc();
-    let texts = ("", "usage: atl compile SRC [SCHED]\n");
+    let texts = (
+        "",
+        "usage: atl compile SRC [SCHED] | stages SRC SCHED | facts SRC SCHED | run SRC SCHED GIVEN | exec CFILE GIVEN | trial K\n",
+    );
     let table: [&[&str]; 6] = [
         &[],
         &["frob"],

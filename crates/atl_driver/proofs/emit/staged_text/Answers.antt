@@ -3,7 +3,7 @@ use Rattle.std.specs.Prelude.{◌≤◌}
 use Rattle.std.proofs.Common.{ℕ}
 use Rattle.atl_driver.proofs.HasOutputs.{each-few, each-shallow}
 use Rattle.atl_driver.proofs.ScheduleLaws.{staged_answers, staged_loops, unstaged_answers, version_outputs, version_some}
-use Rattle.atl_driver.proofs.module_text.staged_text.Goals as goal
+use Rattle.atl_driver.proofs.emit.staged_text.Goals as goal
 
 pub last_text-text-requires-clause-sound : goal.last_text-text-requires-clause-sound
 last_text-text-requires-clause-sound c = c.in-Ok.ensures.version.runs.sound
