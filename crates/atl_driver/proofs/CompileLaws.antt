@@ -29,7 +29,7 @@ use Rattle.c_read.specs.Alone.{IsTextOfAlone}
 use Rattle.linear_cert.specs.declared.lines.FinalLine.{FinalLine}
 use Rattle.atl_driver.specs.Compile.{Answers, Tells, TellsAdmission, TellsFinal, compiled, compiled_as, fault_of, judged_as, lowered_as, module_compiled}
 use Rattle.atl_driver.specs.Compile.{scheduled_as, script_of}
-use Rattle.atl_driver.specs.Correct.{AreLoops, IsAdmitted, IsCompiled, IsRefusedModule, IsRefusedScript, IsRefusedSource, IsTextUnder, IsTextOf}
+use Rattle.atl_driver.specs.Correct.{AreLoops, IsAdmitted, IsCompiled, IsRefusedModule, IsRefusedScript, IsRefusedSource, IsTextUnder, IsTextOf, IsUnread}
 use Rattle.atl_driver.specs.declared.compile.CompileRefusal.{CompileRefusal}
 use Rattle.atl_driver.specs.declared.compile.CompileRefusal.TheVariants.{Refused, Memory}
 use Rattle.atl_driver.specs.Asked.{Asked}
@@ -175,17 +175,22 @@ told_is fault (Refused f) told tells is = let same : f ≡ told = cc in (sym sam
 told_is fault Memory told tells is = absurd (cc)
 
 -- a fault that is told of a source that is not read
-pub refused_unread : (A : Type 0) (emit : Asked) (z : List ℕ) (script : Option (List ℕ)) (fault : ReadFault) (refusal : CompileRefusal) → IsCause z fault
-    → IsFirstFault z fault → ((m : Module) → SourceText z m → Reads (Err fault) (Ok m)) → Tells fault refusal → (told : Fault)
-    → IsErrOf {T = Vec ℕ A} (Err refusal) (Refused told) → IsRefusedSource emit z script told
-refused_unread A emit z script fault refusal is_cause first only tells told is =
+pub is_unread : (A : Type 0) (z : List ℕ) (fault : ReadFault) (refusal : CompileRefusal) → IsCause z fault → IsFirstFault z fault
+    → ((m : Module) → SourceText z m → Reads (Err fault) (Ok m)) → Tells fault refusal → (told : Fault)
+    → IsErrOf {T = Vec ℕ A} (Err refusal) (Refused told) → IsUnread z told
+is_unread A z fault refusal is_cause first only tells told is =
     let same : refusal ≡ Refused told = cc in
     let cause = told_is fault refusal told tells same in
-    inl (record {
+    record {
       cause = fault;
       told = cause.0;
       is_cause = is_cause;
       first = first;
       fails = cause.1;
       none = λ m reads. not_ok {P = ⊥} fault m (only m reads) cause.1;
-    })
+    }
+
+pub refused_unread : (A : Type 0) (emit : Asked) (z : List ℕ) (script : Option (List ℕ)) (fault : ReadFault) (refusal : CompileRefusal) → IsCause z fault
+    → IsFirstFault z fault → ((m : Module) → SourceText z m → Reads (Err fault) (Ok m)) → Tells fault refusal → (told : Fault)
+    → IsErrOf {T = Vec ℕ A} (Err refusal) (Refused told) → IsRefusedSource emit z script told
+refused_unread A emit z script fault refusal is_cause first only tells told is = inl (is_unread A z fault refusal is_cause first only tells told is)

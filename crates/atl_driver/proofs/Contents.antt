@@ -5,11 +5,11 @@ use Rattle.std.specs.declared.option.Option.{Option}
 use Rattle.std.specs.declared.result.Result.{Result}
 use Rattle.std.specs.declared.vec.Vec.{Vec}
 use Rattle.trial_text.specs.TrialText.{trial_script, trial_source}
-use Rattle.atl_driver.specs.Compile.{Answers, compiled, decided, first_content, given_content, script_content, second_content}
-use Rattle.atl_driver.specs.Correct.{IsCompiled, IsRefusedSource, IsRight, HasFault}
+use Rattle.atl_driver.specs.Compile.{Answers, compiled, decided, first_content, given_content, plainly, script_content, second_content}
+use Rattle.atl_driver.specs.Correct.{IsCompiled, IsPlainlyTold, IsRefusedPlainly, IsRefusedSource, IsRight, HasFault}
 use Rattle.atl_driver.specs.Reading.{EachMayBe}
 use Rattle.atl_driver.specs.declared.command.Verb.{Verb}
-use Rattle.atl_driver.specs.declared.command.Verb.TheVariants.{Compile, Stages, Trial, Facts as FactsOf, Run as RunOf}
+use Rattle.atl_driver.specs.declared.command.Verb.TheVariants.{Compile, Plain, Stages, Trial, Facts as FactsOf, Run as RunOf}
 use Rattle.atl_driver.specs.Asked.{Asked, Loops, OfTrial, OnText, Versions, Facts, Run}
 use Rattle.atl_driver.specs.declared.compile.CompileRefusal.{CompileRefusal}
 use Rattle.atl_driver.specs.declared.compile.CompileRefusal.TheVariants.{Refused}
@@ -127,6 +127,29 @@ module _ {A : Type 0} where
       → Answers (compiled Facts (first_content zs) (Some (script_content zs))) r → Answers (decided FactsOf zs) r
   unfolding decided
   decided_facts zs r h = h
+
+  -- so where a source is told plainly
+  pub decided_plain : (z t g : List ℕ) (zs : List (List ℕ)) (r : Result (Vec ℕ A) CompileRefusal) → z ≡ first_content zs → t ≡ script_content zs
+      → g ≡ given_content zs → Answers (plainly z t g) r → Answers (decided Plain zs) r
+  unfolding decided
+  decided_plain z t g zs r e s u h =
+      subst (λ (x : List ℕ). Answers (plainly x (script_content zs) (given_content zs)) r) e
+      (subst (λ (x : List ℕ). Answers (plainly z x (given_content zs)) r) s (subst (λ (x : List ℕ). Answers (plainly z t x) r) u h))
+
+  pub right_plain : (z t g : List ℕ) (zs : List (List ℕ)) (r : Result (Vec ℕ A) CompileRefusal) → z ≡ first_content zs → t ≡ script_content zs
+      → g ≡ given_content zs → IfOk r (λ text. IsPlainlyTold z t g text.items) → IfOk r (λ text. IsRight Plain zs text.items)
+  right_plain z t g zs r e s u h =
+      subst (λ (x : List ℕ). IfOk r (λ text. IsPlainlyTold x (script_content zs) (given_content zs) text.items)) e
+      (subst (λ (x : List ℕ). IfOk r (λ text. IsPlainlyTold z x (given_content zs) text.items)) s
+      (subst (λ (x : List ℕ). IfOk r (λ text. IsPlainlyTold z t x text.items)) u h))
+
+  pub fault_plain : (z t g : List ℕ) (zs : List (List ℕ)) (r : Result (Vec ℕ A) CompileRefusal) → z ≡ first_content zs → t ≡ script_content zs
+      → g ≡ given_content zs → ((fault : Fault) → IsErrOf r (Refused fault) → IsRefusedPlainly z t g fault)
+      → (fault : Fault) → IsErrOf r (Refused fault) → HasFault Plain zs fault
+  fault_plain z t g zs r e s u h fault is =
+      subst (λ (x : List ℕ). IsRefusedPlainly x (script_content zs) (given_content zs) fault) e
+      (subst (λ (x : List ℕ). IsRefusedPlainly z x (given_content zs) fault) s
+      (subst (λ (x : List ℕ). IsRefusedPlainly z t x fault) u (h fault is)))
 
   pub decided_trial : (steps : ℕ) (zs : List (List ℕ)) (r : Result (Vec ℕ A) CompileRefusal)
       → Answers (compiled (Run (OfTrial steps)) (trial_source steps) (Some (trial_script steps))) r → Answers (decided (Trial steps) zs) r

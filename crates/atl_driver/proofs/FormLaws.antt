@@ -5,9 +5,9 @@ use Rattle.std.specs.Prelude.{bytes_eq, codes}
 use Rattle.std.specs.declared.option.Option.{Option}
 use Rattle.std.specs.declared.string.String.{String}
 use Rattle.std.specs.String.{string_bytes}
-use Rattle.atl_driver.specs.Form.{Form, IsInRange, all_file_words, form_of, form_with, takes, texts, trial_form, trial_number, trial_of, verb_named}
+use Rattle.atl_driver.specs.Form.{Form, IsInRange, all_file_words, form_of, form_with, run_form, takes, texts, trial_form, trial_number, trial_of, verb_named}
 use Rattle.atl_driver.specs.declared.command.Verb.{Verb}
-use Rattle.atl_driver.specs.declared.command.Verb.TheVariants.{Compile, Exec, Stages, Facts, Run, Trial}
+use Rattle.atl_driver.specs.declared.command.Verb.TheVariants.{Compile, Exec, Stages, Facts, Plain, Run, Trial}
 
 and_parts : (a b : Bool) → (a && b) ≡ true → (a ≡ true) × (b ≡ true)
 and_parts true b h = (refl, h)
@@ -19,21 +19,21 @@ some_verb v = Some v
 in_range : (u v : Verb) → some_verb u ≡ some_verb v → IsInRange u → IsInRange v
 in_range u v e h = let same : u ≡ v = cc in subst IsInRange same h
 
-named_in_range : (a b c d e : Bool) (v : Verb)
-    → (if a then some_verb Compile else (if b then Some Stages else (if c then Some Facts else (if d then Some Run else (if e then Some Exec else None)))))
-    ≡ some_verb v
+one_in_range : (u : Verb) → IsInRange u → (v : Verb) → some_verb u ≡ Some v → IsInRange v
+one_in_range u r v h = in_range u v h r
+
+named_in_range : (a b c d : Bool) (v : Verb)
+    → (if a then some_verb Compile else (if b then Some Stages else (if c then Some Facts else (if d then Some Exec else None)))) ≡ some_verb v
     → IsInRange v
-named_in_range true b c d e v h = in_range Compile v h tt
-named_in_range false true c d e v h = in_range Stages v h tt
-named_in_range false false true d e v h = in_range Facts v h tt
-named_in_range false false false true e v h = in_range Run v h tt
-named_in_range false false false false true v h = in_range Exec v h tt
-named_in_range false false false false false v h = absurd (cc)
+named_in_range true b c d v h = in_range Compile v h tt
+named_in_range false true c d v h = in_range Stages v h tt
+named_in_range false false true d v h = in_range Facts v h tt
+named_in_range false false false true v h = in_range Exec v h tt
+named_in_range false false false false v h = absurd (cc)
 
 verb_in_range : (name : List ℕ) (v : Verb) → verb_named name ≡ Some v → IsInRange v
 verb_in_range name v h =
-    named_in_range (bytes_eq name (codes "compile")) (bytes_eq name (codes "stages")) (bytes_eq name (codes "facts")) (bytes_eq name (codes "run"))
-    (bytes_eq name (codes "exec")) v h
+    named_in_range (bytes_eq name (codes "compile")) (bytes_eq name (codes "stages")) (bytes_eq name (codes "facts")) (bytes_eq name (codes "exec")) v h
 
 abbrev some_number : ℕ → Option ℕ
 some_number n = Some n
@@ -83,11 +83,28 @@ module _ {A : Type 0} where
       with_in_range (trial_of (trial_number (string_bytes number)))
       (trial_in_range (trial_number (string_bytes number)) (number_in_range (string_bytes number))) files form h
 
+  by_option : (b : Bool) (option : String A) (files : List (String A)) (form : Form)
+      → (let o : Option Form = if b then form_with (Some Plain) files else form_with (Some Run) (option ∷ files) in o) ≡ Some form → IsInRange form.verb
+  by_option true option files form h = with_in_range (Some Plain) (one_in_range Plain tt) files form h
+  by_option false option files form h = with_in_range (Some Run) (one_in_range Run tt) (option ∷ files) form h
+
+  run_form_in_range : (words : List (String A)) (form : Form) → run_form words ≡ Some form → IsInRange form.verb
+  run_form_in_range [] form h = absurd (cc)
+  run_form_in_range (option ∷ files) form h = by_option (bytes_eq (string_bytes option) (codes "--plain")) option files form h
+
   by_name : (b : Bool) (name : String A) (words : List (String A)) (form : Form)
       → (let o : Option Form = if b then trial_form words else form_with (verb_named (string_bytes name)) words in o) ≡ Some form → IsInRange form.verb
   by_name true name words form h = trial_form_in_range words form h
   by_name false name words form h = with_in_range (verb_named (string_bytes name)) (verb_in_range (string_bytes name)) words form h
 
+  by_run : (b : Bool) (name : String A) (words : List (String A)) (form : Form)
+      → (let o : Option Form =
+      if b then run_form words
+      else (if bytes_eq (string_bytes name) (codes "trial") then trial_form words else form_with (verb_named (string_bytes name)) words) in o) ≡ Some form
+      → IsInRange form.verb
+  by_run true name words form h = run_form_in_range words form h
+  by_run false name words form h = by_name (bytes_eq (string_bytes name) (codes "trial")) name words form h
+
   pub form_in_range : (words : List (String A)) (form : Form) → form_of words ≡ Some form → IsInRange form.verb
   form_in_range [] form h = absurd (cc)
-  form_in_range (name ∷ words) form h = by_name (bytes_eq (string_bytes name) (codes "trial")) name words form h
+  form_in_range (name ∷ words) form h = by_run (bytes_eq (string_bytes name) (codes "run")) name words form h

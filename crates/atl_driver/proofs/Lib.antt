@@ -8,6 +8,7 @@ pub mod FactsLaws
 pub mod FirstFailing
 pub mod FormLaws
 pub mod HasOutputs
+pub mod PlainLaws
 pub mod ReadLemmas
 pub mod RunLaws
 pub mod ScheduleLaws

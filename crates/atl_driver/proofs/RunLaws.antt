@@ -15,6 +15,9 @@ use Rattle.linear_cert.specs.declared.lines.FinalLine.{FinalLine}
 use Rattle.loop_lang.specs.Actions.{program_acts}
 use Rattle.loop_lang.specs.Run.{counts_of}
 use Rattle.loop_lang.specs.declared.stmt.Prog.{Prog}
+use Rattle.loop_run.specs.declared.refusal.Stuck.{Stuck}
+use Rattle.loop_run.specs.declared.refusal.Stuck.TheVariants as stuck
+use Rattle.ended_runs.specs.Ended.{IsOfWork}
 use Rattle.lowering_laws.specs.Lowered.{loops_of}
 use Rattle.run_text.specs.GivenRun.{IsRunFault, Names}
 use Rattle.run_text.specs.Outputs.{run_text}
@@ -35,7 +38,8 @@ use Rattle.trial_run.specs.TrialRun.{IsTrialOf, line_of}
 use Rattle.trial_text.specs.TrialText.{trial_given}
 use Rattle.version_run.specs.VersionRun.{AreBounded, IsDenoted, IsVersionFault, names_of}
 use Rattle.atl_driver.specs.Asked.{Errand, OfTrial, OnText, Run, given_to}
-use Rattle.atl_driver.specs.Compile.{Answers, TellsFinal, TellsRun, TellsStep, errand_run, final_fault_of, left_as, loops_run, ran_as, unless_broken}
+use Rattle.atl_driver.specs.Compile.{Answers, TellsFinal, TellsRun, TellsStep, errand_run, final_fault_of, left_as, loops_run, ran_as, run_fault_of}
+use Rattle.atl_driver.specs.Compile.{unless_broken}
 use Rattle.atl_driver.specs.Correct.{IsLeft, IsToldOf, IsUnemitted, IsUnran}
 use Rattle.atl_driver.specs.declared.compile.CompileRefusal.{CompileRefusal}
 use Rattle.atl_driver.specs.declared.compile.CompileRefusal.TheVariants.{Refused, Memory}
@@ -107,7 +111,7 @@ module _ (m v : Module) (is : IsVersion m v) where
       subst (λ (n : Names). IsRunFault n (broken m) p z k) names_are (subst (λ (b : List ℕ → Option ℕ). IsRunFault (names_of v) b p z k) broken_is h)
 
   unran_there : (p : Prog) (z : List ℕ) (fault : Fault) → IsUnran v p z fault → IsUnran m p z fault
-  unran_there p z fault u = record { cause = u.cause; told = u.told; is_cause = fault_there p z u.cause u.is_cause; fails = u.fails }
+  unran_there p z fault u = record { cause = u.cause; told = u.told; is_cause = fault_there p z u.cause u.is_cause; fails = u.fails; ends = u.ends }
 
 -- ---- a program's run
 
@@ -132,18 +136,38 @@ due A want run.Memory h n = absurd (n refl)
 abbrev as_error : Fault → Result (List ℕ) Fault
 as_error fault = Err fault
 
+-- a fault that is told of a run that is not stuck has another number
+never_stuck : (k : RunFault) → ((why : Stuck) → k ≡ run.Stuck why → IsOfWork why) → (run_fault_of k).number ≡ 51 → ⊥
+never_stuck (run.BadData at) h e = absurd (omega (arith, e))
+never_stuck (run.SizesNotAllowed constraint) h e = absurd (omega (arith, e))
+never_stuck (run.TooBigToRun words) h e = absurd (omega (arith, e))
+never_stuck (run.WrongCount i w g) h e = absurd (omega (arith, e))
+never_stuck run.Memory h e = absurd (omega (arith, e))
+never_stuck (run.Stuck (stuck.TooMuchWork steps)) h e = absurd (omega (arith, e))
+never_stuck (run.Stuck (stuck.Outside b i)) h e = h (stuck.Outside b i) refl
+never_stuck (run.Stuck stuck.Overflow) h e = h stuck.Overflow refl
+never_stuck (run.Stuck stuck.NegativeDividend) h e = h stuck.NegativeDividend refl
+
 module _ (A : Type 0) where
   pub answers_unran : (want : Result (List ℕ) RunFault) (k : RunFault) (refusal : CompileRefusal) → Runs {A = A} want (Err k) → TellsRun k refusal
       → Answers {A = A} (ran_as want) (Err refusal)
   answers_unran want k Memory h tells = tt
   answers_unran want k (Refused told) h tells = ap ran_as (due A want k h tells.1) ∙ ap as_error (sym tells.0)
 
-  pub refused_unran : (m : Module) (p : Prog) (z : List ℕ) (k : RunFault) (refusal : CompileRefusal) → IsVersionFault m p z k → TellsRun k refusal
+  pub refused_unran : (m : Module) (p : Prog) (z : List ℕ) (k : RunFault) (refusal : CompileRefusal)
+      → ((why : Stuck) → IsVersionFault m p z (run.Stuck why) → IsOfWork why) → IsVersionFault m p z k → TellsRun k refusal
       → (told : Fault) → IsErrOf {T = Vec ℕ A} (Err refusal) (Refused told) → IsUnran m p z told
-  refused_unran m p z k Memory is_cause tells told is = absurd (cc)
-  refused_unran m p z k (Refused found) is_cause tells told is =
+  refused_unran m p z k Memory work is_cause tells told is = absurd (cc)
+  refused_unran m p z k (Refused found) work is_cause tells told is =
       let same : found ≡ told = cc in
-      record { cause = k; told = sym same ∙ tells.0; is_cause = is_cause; fails = tells.1 }
+      let tells_it : told ≡ run_fault_of k = sym same ∙ tells.0 in
+      record {
+        cause = k;
+        told = tells_it;
+        is_cause = is_cause;
+        fails = tells.1;
+        ends = λ e. never_stuck k (λ why at. work why (subst (IsVersionFault m p z) at is_cause)) (ap (λ (f : Fault). f.number) (sym tells_it) ∙ e);
+      }
 
 module _ {A : Type 0} (e : Errand) (n m : Module) (p q : Prog) (r : Result (Vec ℕ A) CompileRefusal) (is : n ≡ m) (same : p ≡ q) where
   pub of_program_answers : Answers (ran_as (errand_run e n p)) r → Answers (ran_as (errand_run e m q)) r

@@ -35,13 +35,16 @@ use Rattle.run_text.specs.declared.fault.RunFault.TheVariants as run
 use Rattle.version_run.specs.VersionRun.{version_run}
 use Rattle.trial_text.specs.TrialText.{trial_script, trial_source}
 use Rattle.trial_run.specs.TrialRun.{trial_run}
+use Rattle.plain_run.specs.PlainRun.{plain_run}
+use Rattle.plain_run.specs.declared.fault.PlainFault.{PlainFault}
+use Rattle.plain_run.specs.declared.fault.PlainFault.TheVariants as plain
 use Rattle.c_execution.specs.Executed.{exec_answer}
 use Rattle.c_execution.specs.declared.fault.ExecFault.{ExecFault}
 use Rattle.c_execution.specs.declared.fault.ExecFault.TheVariants as exec
 use Rattle.stages_text.specs.Stages.{stages}
 use Rattle.facts_run.specs.Claims.{facts_text}
 use Rattle.atl_driver.specs.declared.command.Verb.{Verb}
-use Rattle.atl_driver.specs.declared.command.Verb.TheVariants.{Compile, Exec, Stages, Trial, Facts as FactsOf, Run as RunOf}
+use Rattle.atl_driver.specs.declared.command.Verb.TheVariants.{Compile, Exec, Plain, Stages, Trial, Facts as FactsOf, Run as RunOf}
 use Rattle.atl_driver.specs.declared.compile.CompileRefusal.{CompileRefusal}
 use Rattle.atl_driver.specs.declared.compile.CompileRefusal.TheVariants.{Refused, Memory}
 use Rattle.atl_driver.specs.Asked.{Asked, Errand, OfTrial, OnText, Loops, Versions, Facts, Run}
@@ -165,6 +168,15 @@ run_fault_of (run.Stuck why) = stuck_fault_of why
 run_fault_of (run.TooBigToRun words) = one_field 43 (field.Words words)
 run_fault_of (run.WrongCount input want got) = three_fields 42 (field.Input input) (field.Want want) (field.Got got)
 run_fault_of run.Memory = no_fault
+
+-- the fault of what the plain evaluator is given, or of its work, whose turns it tells as steps
+abbrev pub plain_fault_of : PlainFault → Fault
+plain_fault_of (plain.BadData at) = broken_at 40 at
+plain_fault_of (plain.SizesNotAllowed constraint) = one_field 41 (field.Constraint constraint)
+plain_fault_of (plain.TooBigToRun words) = one_field 43 (field.Words words)
+plain_fault_of (plain.WrongCount input want got) = three_fields 42 (field.Input input) (field.Want want) (field.Got got)
+plain_fault_of (plain.TooMuchWork steps) = one_field 44 (field.Steps steps)
+plain_fault_of plain.Memory = no_fault
 
 -- the fault of a C text that is not executed
 abbrev pub exec_fault_of : ExecFault → Fault
@@ -294,6 +306,11 @@ abbrev pub TellsRun : RunFault → CompileRefusal → Type 0
 TellsRun fault (Refused told) = (told ≡ run_fault_of fault) × (fault ≢ run.Memory)
 TellsRun fault Memory = ⊤
 
+-- the refusal tells what was found by the plain evaluator, or that memory did not suffice
+abbrev pub TellsPlain : PlainFault → CompileRefusal → Type 0
+TellsPlain fault (Refused told) = (told ≡ plain_fault_of fault) × (fault ≢ plain.Memory)
+TellsPlain fault Memory = ⊤
+
 -- the refusal tells which step fails and why, or that memory did not suffice
 abbrev pub TellsStep : StepFault → CompileRefusal → Type 0
 TellsStep fault (Refused told) = (told ≡ step_fault_of fault) × (fault.kind ≢ step.Memory)
@@ -302,6 +319,25 @@ TellsStep fault Memory = ⊤
 -- the text of a source under a script, where there is one, or the first fault
 unfoldable pub compiled : Asked → List ℕ → Option (List ℕ) → Result (List ℕ) Fault
 compiled emit source text = compiled_as emit (read_source source) text
+
+-- what the plain evaluator tells, or its fault
+abbrev pub plainly_as : Result (List ℕ) PlainFault → Result (List ℕ) Fault
+plainly_as (Ok text) = Ok text
+plainly_as (Err fault) = Err (plain_fault_of fault)
+
+-- what it tells of a source that is read
+abbrev pub read_plainly : Result Module ReadFault → List ℕ → Result (List ℕ) Fault
+read_plainly (Ok origin) given = plainly_as (plain_run origin given)
+read_plainly (Err fault) given = Err (fault_of fault)
+
+-- what is due once there is a C text, or the fault in its place
+abbrev pub once_accepted : Result (List ℕ) Fault → Result (List ℕ) Fault → Result (List ℕ) Fault
+once_accepted (Ok text) due = due
+once_accepted (Err fault) due = Err fault
+
+-- what the plain evaluator tells of a source that is accepted under a script, or the first fault: of the verdict, of the given text, of its sizes, of the work
+unfoldable pub plainly : List ℕ → List ℕ → List ℕ → Result (List ℕ) Fault
+plainly source script given = once_accepted (compiled Loops source (Some script)) (read_plainly (read_source source) given)
 
 -- the first content, which a form with a file has
 abbrev pub first_content : List (List ℕ) → List ℕ
@@ -333,6 +369,7 @@ decided Compile contents = compiled Loops (first_content contents) (second_conte
 decided Stages contents = compiled Versions (first_content contents) (Some (script_content contents))
 decided FactsOf contents = compiled Facts (first_content contents) (Some (script_content contents))
 decided RunOf contents = compiled (Run (OnText (given_content contents))) (first_content contents) (Some (script_content contents))
+decided Plain contents = plainly (first_content contents) (script_content contents) (given_content contents)
 decided Exec contents = executed_as (exec_answer (first_content contents) (script_content contents))
 decided (Trial steps) contents = compiled (Run (OfTrial steps)) (trial_source steps) (Some (trial_script steps))
 

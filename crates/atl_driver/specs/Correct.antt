@@ -34,13 +34,17 @@ use Rattle.run_text.specs.declared.fault.RunFault.TheVariants as run
 use Rattle.version_run.specs.VersionRun.{IsDenoted, IsVersionFault}
 use Rattle.trial_text.specs.TrialText.{trial_script, trial_source}
 use Rattle.trial_run.specs.TrialRun.{IsTrialOf}
+use Rattle.plain_run.specs.PlainRun.{IsPlainDenoted, IsPlainFault}
+use Rattle.plain_run.specs.declared.fault.PlainFault.{PlainFault}
+use Rattle.plain_run.specs.declared.fault.PlainFault.TheVariants as plain
 use Rattle.stages_text.specs.Stages.{AreBlocks}
 use Rattle.facts_run.specs.Claims.{facts_text}
 use Rattle.atl_driver.specs.declared.command.Verb.{Verb}
-use Rattle.atl_driver.specs.declared.command.Verb.TheVariants.{Compile, Exec, Stages, Trial, Facts as FactsOf, Run as RunOf}
+use Rattle.atl_driver.specs.declared.command.Verb.TheVariants.{Compile, Exec, Plain, Stages, Trial, Facts as FactsOf, Run as RunOf}
 use Rattle.atl_driver.specs.Asked.{Asked, Errand, OfTrial, OnText, Loops, Versions, Facts, Run, given_to}
 use Rattle.atl_driver.specs.declared.fault.Fault.{Fault}
 use Rattle.atl_driver.specs.Compile.{admission_fault_of, exec_fault_of, fault_of, final_fault_of, first_content, given_content, is_unshown, no_steps}
+use Rattle.atl_driver.specs.Compile.{plain_fault_of}
 use Rattle.atl_driver.specs.Compile.{run_fault_of, script_content, script_fault_of, second_content, step_fault_of}
 
 -- The module keeps the rules of the final form with these final lines and marks. The text is the canonical text of its loops, and reads back as that
@@ -178,12 +182,14 @@ pub record IsUnlowerable (origin : Module) (schedule : Script) (fault : Fault) :
   pub first : final_fault last schedule.finals schedule.parallel ≡ Some broken
   pub told : fault ≡ final_fault_of broken
 
--- running this program of the module on the given text comes to no text, and this is the first cause
+-- Running this program of the module on the given text comes to no text, and this is the first cause. It is never that the run is stuck: the loops of an
+-- accepted module touch no place outside a buffer, and compute each index.
 pub record IsUnran (origin : Module) (program : Prog) (given : List ℕ) (fault : Fault) : Type 0 where
   pub cause : RunFault
   pub told : fault ≡ run_fault_of cause
   pub is_cause : IsVersionFault origin program given cause
   pub fails : cause ≢ run.Memory
+  pub ends : fault.number ≢ 51
 
 -- the steps of the schedule lead to a last version, which keeps the rules of the final form, and this is the first fault of the given text and the run
 pub record IsUnrun (origin : Module) (schedule : Script) (given : List ℕ) (fault : Fault) : Type 0 where
@@ -232,12 +238,53 @@ pub record IsUnexecuted (c given : List ℕ) (fault : Fault) : Type 0 where
   pub is_cause : IsExecFault c given cause
   pub fails : cause ≢ exec.Run run.Memory
 
+-- The source is the text of exactly one module, and is accepted under the script. The given text gives sizes that this module allows and the words of
+-- tensors of the declared extents, and each line tells the words of what it denotes of them.
+pub record IsPlainlyTold (source script given text : List ℕ) : Type 0 where
+  pub c : List ℕ
+  pub accepted : IsCompiled Loops source (Some script) c
+  pub denoted : IsPlainDenoted accepted.origin given text
+
+-- the plain evaluator comes to no text of the module on the given text, and this is the first cause
+pub record IsUnplain (origin : Module) (given : List ℕ) (fault : Fault) : Type 0 where
+  pub cause : PlainFault
+  pub told : fault ≡ plain_fault_of cause
+  pub is_cause : IsPlainFault origin given cause
+  pub fails : cause ≢ plain.Memory
+
+-- the source is accepted under the script, and this is the first fault of the given text and the work
+pub record IsUnplainSource (source script given : List ℕ) (fault : Fault) : Type 0 where
+  pub c : List ℕ
+  pub accepted : IsCompiled Loops source (Some script) c
+  pub why : IsUnplain accepted.origin given fault
+
+-- why nothing is told plainly: the verdict first
+abbrev pub IsRefusedPlainly : List ℕ → List ℕ → List ℕ → Fault → Type 0
+IsRefusedPlainly source script given fault = IsRefusedSource Loops source (Some script) fault ⊎ IsUnplainSource source script given fault
+
+-- every module whose text this is is sound
+abbrev pub IsSoundText : List ℕ → Type 0
+IsSoundText source = (m : Module) → SourceText source m → IsSound m
+
+-- the source is the text of a module, which denotes what is told
+pub record IsReadPlainly (source given text : List ℕ) : Type 0 where
+  pub origin : Module
+  pub reads : SourceText source origin
+  pub denoted : IsPlainDenoted origin given text
+
+-- the source is the text of a module, of which nothing is told plainly
+pub record IsUnplainRead (source given : List ℕ) (fault : Fault) : Type 0 where
+  pub origin : Module
+  pub reads : SourceText source origin
+  pub why : IsUnplain origin given fault
+
 -- the text is right for the contents of a command's files
 abbrev pub IsRight : Verb → List (List ℕ) → List ℕ → Type 0
 IsRight Compile contents text = IsCompiled Loops (first_content contents) (second_content contents) text
 IsRight Stages contents text = IsCompiled Versions (first_content contents) (Some (script_content contents)) text
 IsRight FactsOf contents text = IsCompiled Facts (first_content contents) (Some (script_content contents)) text
 IsRight RunOf contents text = IsCompiled (Run (OnText (given_content contents))) (first_content contents) (Some (script_content contents)) text
+IsRight Plain contents text = IsPlainlyTold (first_content contents) (script_content contents) (given_content contents) text
 IsRight Exec contents text = IsExecuted (first_content contents) (script_content contents) text
 IsRight (Trial steps) contents text = IsCompiled (Run (OfTrial steps)) (trial_source steps) (Some (trial_script steps)) text
 
@@ -247,5 +294,6 @@ HasFault Compile contents fault = IsRefusedSource Loops (first_content contents)
 HasFault Stages contents fault = IsRefusedSource Versions (first_content contents) (Some (script_content contents)) fault
 HasFault FactsOf contents fault = IsRefusedSource Facts (first_content contents) (Some (script_content contents)) fault
 HasFault RunOf contents fault = IsRefusedSource (Run (OnText (given_content contents))) (first_content contents) (Some (script_content contents)) fault
+HasFault Plain contents fault = IsRefusedPlainly (first_content contents) (script_content contents) (given_content contents) fault
 HasFault Exec contents fault = IsUnexecuted (first_content contents) (script_content contents) fault
 HasFault (Trial steps) contents fault = IsRefusedSource (Run (OfTrial steps)) (trial_source steps) (Some (trial_script steps)) fault

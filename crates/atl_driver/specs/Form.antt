@@ -6,7 +6,7 @@ use Rattle.std.specs.declared.option.Option.{Option}
 use Rattle.std.specs.declared.string.String.{String}
 use Rattle.std.specs.String.{string_bytes}
 use Rattle.atl_driver.specs.declared.command.Verb.{Verb}
-use Rattle.atl_driver.specs.declared.command.Verb.TheVariants.{Compile, Exec, Stages, Facts, Run, Trial}
+use Rattle.atl_driver.specs.declared.command.Verb.TheVariants.{Compile, Exec, Stages, Facts, Plain, Run, Trial}
 use Rattle.atl_driver.specs.declared.command.Command.{Command}
 
 -- a word that names a file is not empty and does not begin with a dash
@@ -33,8 +33,7 @@ abbrev pub verb_named : List ℕ → Option Verb
 verb_named name =
     if bytes_eq name (codes "compile") then Some Compile
     else (if bytes_eq name (codes "stages") then Some Stages
-    else (if bytes_eq name (codes "facts") then Some Facts
-    else (if bytes_eq name (codes "run") then Some Run else (if bytes_eq name (codes "exec") then Some Exec else None))))
+    else (if bytes_eq name (codes "facts") then Some Facts else (if bytes_eq name (codes "exec") then Some Exec else None)))
 
 -- the number of a trial, 1 to 16: a digit from 1 to 9, or 1 and a digit from 0 to 6
 abbrev pub trial_number : List ℕ → Option ℕ
@@ -54,6 +53,7 @@ takes Compile files = files == 1 || files == 2
 takes Stages files = files == 2
 takes Facts files = files == 2
 takes Run files = files == 3
+takes Plain files = files == 3
 takes Exec files = files == 2
 takes (Trial steps) files = files == 0
 
@@ -64,6 +64,12 @@ module _ {A : Type 0} where
   form_with (Some verb) files =
       if all_file_words files && takes verb (length files) then Some (record { verb = verb; files = texts files }) else None
 
+  -- the form of a run with the words behind it: its option, where it has one, and its files
+  abbrev pub run_form : List (String A) → Option Form
+  run_form [] = None
+  run_form (option ∷ files) =
+      if bytes_eq (string_bytes option) (codes "--plain") then form_with (Some Plain) files else form_with (Some Run) (option ∷ files)
+
   -- the form of a trial with the words behind it: its number alone
   abbrev pub trial_form : List (String A) → Option Form
   trial_form [] = None
@@ -72,7 +78,9 @@ module _ {A : Type 0} where
   -- the form of the words, if they have one
   abbrev pub form_of : List (String A) → Option Form
   form_of [] = None
-  form_of (name ∷ words) = if bytes_eq (string_bytes name) (codes "trial") then trial_form words else form_with (verb_named (string_bytes name)) words
+  form_of (name ∷ words) =
+      if bytes_eq (string_bytes name) (codes "run") then run_form words
+      else (if bytes_eq (string_bytes name) (codes "trial") then trial_form words else form_with (verb_named (string_bytes name)) words)
 
 -- a command as its form
 abbrev pub command_seen : Option Command → Option Form

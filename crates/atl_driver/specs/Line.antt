@@ -79,7 +79,8 @@ fault_line fault = fault_head fault.number ++ flat_map field_text fault.fields +
 -- the line of a refusal
 abbrev pub line_of : Refusal → List ℕ
 line_of (Refused fault) = fault_line fault
-line_of Usage = codes "usage: atl compile SRC [SCHED] | stages SRC SCHED | facts SRC SCHED | run SRC SCHED GIVEN | exec CFILE GIVEN | trial K" ++ 10 ∷ []
+line_of Usage =
+    codes "usage: atl compile SRC [SCHED] | stages SRC SCHED | facts SRC SCHED | run [--plain] SRC SCHED GIVEN | exec CFILE GIVEN | trial K" ++ 10 ∷ []
 line_of ReadFault = codes "ReadFault" ++ 10 ∷ []
 line_of TooLong = codes "TooLong taken 1048577" ++ 10 ∷ []
 line_of Memory = codes "Memory" ++ 10 ∷ []

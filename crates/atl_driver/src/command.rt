@@ -1,6 +1,6 @@
 // The words of the command line.
 ghost use Rattle.std.specs.Prelude.{◌≡◌, Some};
-ghost use Rattle.atl_driver.specs.Form.{is_file_word, form_of, form_with, command_seen, all_file_words, takes, trial_form};
+ghost use Rattle.atl_driver.specs.Form.{is_file_word, form_of, form_with, command_seen, all_file_words, run_form, takes, trial_form};
 ghost use Rattle.atl_driver.specs.Form.{trial_number as number_of, verb_named};
 
 /// What a command does with its files.
@@ -14,6 +14,8 @@ pub enum Verb {
     Facts,
     /// Writes what a run of a source on a given text under a script leaves.
     Run,
+    /// Writes what a source that is accepted under a script denotes of a given text, by the plain evaluator.
+    Plain,
     /// Writes what a run of a C text on a given text leaves.
     Exec,
     /// Writes the line of the trial of so many steps.
@@ -49,7 +51,6 @@ fn verb_named(name: &str) -> Option<Verb>
         "compile" => Some(Verb::Compile),
         "stages" => Some(Verb::Stages),
         "facts" => Some(Verb::Facts),
-        "run" => Some(Verb::Run),
         "exec" => Some(Verb::Exec),
         _ => None,
     }
@@ -75,6 +76,7 @@ fn takes(verb: Verb, files: usize) -> bool
         Verb::Stages => files == 2,
         Verb::Facts => files == 2,
         Verb::Run => files == 3,
+        Verb::Plain => files == 3,
         Verb::Exec => files == 2,
         Verb::Trial(_) => files == 0,
     }
@@ -91,6 +93,17 @@ fn command_with(verb: Verb, files: &[String]) -> Option<Command<'_>>
     }
 }
 
+/// The run with the words behind it.
+fn run_command(words: &[String]) -> Option<Command<'_>>
+    ensures { command_seen result ≡ run_form words.now }
+{
+    let (option, files) = words.split_first()?;
+    if option.as_str() == "--plain" {
+        return command_with(Verb::Plain, files);
+    }
+    command_with(Verb::Run, words)
+}
+
 /// The trial with the words behind it.
 fn trial_command(words: &[String]) -> Option<Command<'_>>
     ensures { command_seen result ≡ trial_form words.now }
@@ -105,6 +118,9 @@ pub fn read_command(words: &[String]) -> Option<Command<'_>>
     ensures { command_seen result ≡ form_of words.now }
 {
     let (name, words) = words.split_first()?;
+    if name.as_str() == "run" {
+        return run_command(words);
+    }
     if name.as_str() == "trial" {
         return trial_command(words);
     }

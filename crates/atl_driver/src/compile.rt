@@ -13,6 +13,7 @@ use crate::emit::Emit;
 use crate::exec::exec_text;
 use crate::faults::unread;
 use crate::module_text::module_text;
+use crate::plain::plain_bytes;
 use crate::task::Task;
 use crate::trial::trial_bytes;
 use atl_printer::laws::what_is_read_is_printable;
@@ -196,6 +197,12 @@ pub fn compile_all(
         Verb::Stages => stages_bytes(alloc, first_of(contents), script_in(contents)),
         Verb::Facts => facts_bytes(alloc, first_of(contents), script_in(contents)),
         Verb::Run => run_bytes(
+            alloc,
+            first_of(contents),
+            script_in(contents),
+            given_in(contents),
+        ),
+        Verb::Plain => plain_bytes(
             alloc,
             first_of(contents),
             script_in(contents),

@@ -93,6 +93,7 @@ fn versions_text(
 }
 
 /// What a schedule has to show, or its first fault, where that is not one of a condition or a goal that is not shown.
+#[tactic(none)]
 fn told_facts(alloc: Global, origin: Module, schedule: &Script) -> Result<Vec<u8>, CompileRefusal>
     requires may { MayRun origin }
     requires some { origin.outputs ≢ [] }

@@ -1,12 +1,13 @@
 // The faults of runs, each a number and its fields.
 ghost use Rattle.std.specs.Prelude.{◌≡◌, ◌≢◌, IfOk};
-ghost use Rattle.atl_driver.specs.Compile.{TellsExec, TellsFault, TellsRun, run_fault_of, stuck_fault_of, three_fields};
+ghost use Rattle.atl_driver.specs.Compile.{TellsExec, TellsFault, TellsPlain, TellsRun, run_fault_of, stuck_fault_of, three_fields};
 
 use crate::compile::CompileRefusal;
 use crate::faults::refused;
 use crate::{Fault, FaultField, Fields};
 use c_execution::ExecFault;
 use loop_run::Stuck;
+use plain_run::PlainFault;
 use run_text::RunFault;
 use std::alloc::{AllocError, Global};
 
@@ -91,5 +92,21 @@ pub fn unexecuted(alloc: Global, fault: ExecFault) -> CompileRefusal
         ExecFault::BadC { at } => refused(alloc, 50, FaultField::At(at)),
         ExecFault::Run(RunFault::Memory) => CompileRefusal::Memory,
         ExecFault::Run(fault) => unrun(alloc, fault),
+    }
+}
+
+/// The refusal of what the plain evaluator is given, or of its work.
+pub fn unplain(alloc: Global, fault: PlainFault) -> CompileRefusal
+    ensures { TellsPlain fault result }
+{
+    match fault {
+        PlainFault::BadData { at } => refused(alloc, 40, FaultField::At(at)),
+        PlainFault::SizesNotAllowed { constraint } => {
+            refused(alloc, 41, FaultField::Constraint(constraint))
+        }
+        PlainFault::TooBigToRun { words } => refused(alloc, 43, FaultField::Words(words)),
+        PlainFault::WrongCount { input, want, got } => miscounted(alloc, input, want, got),
+        PlainFault::TooMuchWork { steps } => refused(alloc, 44, FaultField::Steps(steps)),
+        PlainFault::Memory => CompileRefusal::Memory,
     }
 }

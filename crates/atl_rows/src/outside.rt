@@ -32,7 +32,7 @@ fn other_words_are_usage(rt: HostRuntime) -> Result<(), Fail> {
     let alloc = rt.alloc();
     let texts = (
         "",
-        "usage: atl compile SRC [SCHED] | stages SRC SCHED | facts SRC SCHED | run SRC SCHED GIVEN | exec CFILE GIVEN | trial K\n",
+        "usage: atl compile SRC [SCHED] | stages SRC SCHED | facts SRC SCHED | run [--plain] SRC SCHED GIVEN | exec CFILE GIVEN | trial K\n",
     );
     let table: [&[&str]; 6] = [
         &[],

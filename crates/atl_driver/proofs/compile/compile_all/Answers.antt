@@ -2,9 +2,10 @@ use Rattle.std.proofs.Common.{Global, ◌≤◌, length, map, List, ℕ, subst, 
 use Rattle.std.specs.declared.vec.Vec.{Vec}
 use Rattle.atl_driver.specs.Asked.{Facts, Versions}
 use Rattle.atl_driver.specs.Form.{IsInRange}
-use Rattle.atl_driver.specs.declared.command.Verb.TheVariants.{Compile, Exec, Stages, Trial, Facts as FactsOf, Run as RunOf}
+use Rattle.atl_driver.specs.declared.command.Verb.TheVariants.{Compile, Exec, Plain, Stages, Trial, Facts as FactsOf, Run as RunOf}
 use Rattle.atl_driver.proofs.Contents.{answers_on, decided_compile, decided_facts, decided_run, decided_stages, decided_trial, decided_under, fault_compile}
 use Rattle.atl_driver.proofs.Contents.{fault_on, fault_run, fault_under, right_compile, right_on, right_run, right_under, script_within, within_reader}
+use Rattle.atl_driver.proofs.Contents.{decided_plain, fault_plain, right_plain}
 use Rattle.atl_driver.proofs.ExecLaws.{decided_exec, fault_exec, right_exec}
 use Rattle.atl_driver.proofs.compile.compile_all.Goals as goal
 
@@ -131,6 +132,36 @@ returns-in-Run-clause-refused c =
     (fault_run c.first_of-in-Run.result.now c.script_in-in-Run.result.now c.given_in.result.now
     (texts_in c.args.contents.now) c.run_bytes.result c.first_of-in-Run.ensures c.script_in-in-Run.ensures c.given_in.ensures
     c.run_bytes.ensures.refused)
+
+pub plain_bytes-requires-clause-source : goal.plain_bytes-requires-clause-source
+plain_bytes-requires-clause-source c =
+    let within = subst (λ (z : List ℕ). length z ≤ 1048576) (sym c.first_of-in-Plain.ensures) c.requires.first in omega (arith, within)
+
+pub plain_bytes-requires-clause-script : goal.plain_bytes-requires-clause-script
+plain_bytes-requires-clause-script c =
+    let within = subst (λ (z : List ℕ). length z ≤ 1048576) (sym c.script_in-in-Plain.ensures) (script_within _ c.requires.second) in omega (arith, within)
+
+pub plain_bytes-requires-clause-given : goal.plain_bytes-requires-clause-given
+plain_bytes-requires-clause-given c =
+    let within = subst (λ (z : List ℕ). length z ≤ 1048576) (sym c.given_in-in-Plain.ensures) c.requires.third in omega (arith, within)
+
+pub returns-in-Plain-clause-answers : goal.returns-in-Plain-clause-answers
+returns-in-Plain-clause-answers c =
+    decided_under c.args.verb Plain _ c.plain_bytes.result c.in-Plain.is
+    (decided_plain c.first_of-in-Plain.result.now c.script_in-in-Plain.result.now c.given_in-in-Plain.result.now (texts_in c.args.contents.now)
+    c.plain_bytes.result c.first_of-in-Plain.ensures c.script_in-in-Plain.ensures c.given_in-in-Plain.ensures c.plain_bytes.ensures.answers)
+
+pub returns-in-Plain-clause-correct : goal.returns-in-Plain-clause-correct
+returns-in-Plain-clause-correct c =
+    right_under c.args.verb Plain _ c.plain_bytes.result c.in-Plain.is
+    (right_plain c.first_of-in-Plain.result.now c.script_in-in-Plain.result.now c.given_in-in-Plain.result.now (texts_in c.args.contents.now)
+    c.plain_bytes.result c.first_of-in-Plain.ensures c.script_in-in-Plain.ensures c.given_in-in-Plain.ensures c.plain_bytes.ensures.correct)
+
+pub returns-in-Plain-clause-refused : goal.returns-in-Plain-clause-refused
+returns-in-Plain-clause-refused c =
+    fault_under c.args.verb Plain _ c.plain_bytes.result c.in-Plain.is
+    (fault_plain c.first_of-in-Plain.result.now c.script_in-in-Plain.result.now c.given_in-in-Plain.result.now (texts_in c.args.contents.now)
+    c.plain_bytes.result c.first_of-in-Plain.ensures c.script_in-in-Plain.ensures c.given_in-in-Plain.ensures c.plain_bytes.ensures.refused)
 
 pub returns-in-Exec-clause-answers : goal.returns-in-Exec-clause-answers
 returns-in-Exec-clause-answers c =

@@ -2,6 +2,9 @@ use Rattle.std.proofs.Common.{Global, Ok}
 use Rattle.atl_driver.proofs.FactsLaws.{facts_answers, facts_told, unlowerable_facts, unstaged_facts}
 use Rattle.atl_driver.proofs.emit.told_facts.Goals as goal
 
+pub facts-requires : goal.facts-requires
+facts-requires c = record { runs = c.requires.may; some = c.requires.some }
+
 pub returns-in-Ok-clause-answers : goal.returns-in-Ok-clause-answers
 returns-in-Ok-clause-answers c = facts_answers Global c.args.origin c.args.schedule.now c.in-Ok.text c.in-Ok.ensures
 

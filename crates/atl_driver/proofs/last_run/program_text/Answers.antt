@@ -1,4 +1,5 @@
 use Rattle.std.proofs.Common.{Global, ap}
+use Rattle.ended_runs.proofs.EndLaws.{runs-end}
 use Rattle.atl_driver.specs.Asked.{errand_of, given_to}
 use Rattle.atl_driver.specs.Compile.{errand_run, ran_as}
 use Rattle.atl_driver.proofs.RunLaws.{answers_unran, refused_unran}
@@ -14,5 +15,6 @@ returns-in-Err-clause-answers c =
 
 pub returns-in-Err-clause-refused : goal.returns-in-Err-clause-refused
 returns-in-Err-clause-refused c =
-    refused_unran Global c.args.module.now c.args.program.now (given_to (errand_of c.args.task)) c.in-Err.fault c.unran.result c.in-Err.ensures.refused
-    c.unran.ensures
+    refused_unran Global c.args.module.now c.args.program.now (given_to (errand_of c.args.task)) c.in-Err.fault c.unran.result
+    (runs-end c.args.module.now c.args.program.now c.requires.formed c.requires.inputs c.requires.lengths c.requires.correct
+    (given_to (errand_of c.args.task))) c.in-Err.ensures.refused c.unran.ensures
