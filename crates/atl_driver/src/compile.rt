@@ -86,6 +86,7 @@ pub fn compile_bytes(
 
 /// The canonical texts of the versions of a source under a script, the source first, or the first fault; the final form of the last
 /// version is not asked for. Time is that of `read_module`, `admit`, `read_script` and `run_script`, and linear in the text.
+#[tactic(none)]
 pub fn stages_bytes(alloc: Global, source: &[u8], script: &[u8]) -> Result<Vec<u8>, CompileRefusal>
     requires source { length source.now ≤ 2147483647 }
     requires script { length script.now ≤ 2147483647 }
