@@ -4,6 +4,10 @@
 #[cfg(test)]
 mod calls;
 #[cfg(test)]
+mod exec;
+#[cfg(test)]
+mod facts;
+#[cfg(test)]
 mod faults;
 #[cfg(test)]
 mod lines;
@@ -14,6 +18,12 @@ mod outside;
 #[cfg(test)]
 mod rules;
 #[cfg(test)]
+mod run;
+#[cfg(test)]
 mod scheduled;
 #[cfg(test)]
 mod sources;
+#[cfg(test)]
+mod stages;
+#[cfg(test)]
+mod trial;

@@ -1,20 +1,31 @@
 //! What the program answers and writes: statuses, refusals, words that are Usage, and puts that fail.
 
-use crate::calls::{COMPILE, SCHEDULE, told, written};
+use crate::calls::{COMPILE, EXEC, FACTS, RUN, SCHEDULE, STAGES, told, written};
 use atl_driver::Status;
 use atl_edges::FILE_LIMIT;
 use std::test::Fail;
+
+/// The line that is written for words of no form.
+pub const USAGE: &str =
+    "usage: atl compile SRC [SCHED] | stages SRC SCHED | facts SRC SCHED | run [--plain] SRC SCHED GIVEN | exec CFILE GIVEN | trial K\n";
 
 #[test]
 fn a_file_that_is_not_read_has_its_line(rt: HostRuntime) -> Result<(), Fail> {
     let alloc = rt.alloc();
     let texts = ("", "ReadFault\n");
-    // Both files are read before anything is decided: a script that is not there comes before the fault of the source.
-    let table: [(&[&str], &[u64]); 4] = [
+    // All files are read before anything is decided: a script that is not there comes before the fault of the source.
+    let table: [(&[&str], &[u64]); 11] = [
         (&COMPILE, &[1]),
         (&["compile", "b"], &[]),
         (&SCHEDULE, &[]),
         (&["compile", "a.atl", "a.atl"], &[2]),
+        (&STAGES, &[]),
+        (&FACTS, &[]),
+        (&RUN, &[]),
+        (&["run", "a.atl", "a.atl", "a.given"], &[]),
+        (&["run", "a.atl", "a.atl", "a.atl"], &[3]),
+        (&EXEC, &[]),
+        (&["exec", "a.atl", "a.atl"], &[2]),
     ];
     for (words, failing) in table {
         let status = told(&rt, alloc, words, b"atl 1;", failing, texts)?;
@@ -30,20 +41,33 @@ fn a_file_that_is_not_read_has_its_line(rt: HostRuntime) -> Result<(), Fail> {
 #[test]
 fn other_words_are_usage(rt: HostRuntime) -> Result<(), Fail> {
     let alloc = rt.alloc();
-    let texts = (
-        "",
-        "usage: atl compile SRC [SCHED] | stages SRC SCHED | facts SRC SCHED | run [--plain] SRC SCHED GIVEN | exec CFILE GIVEN | trial K\n",
-    );
-    let table: [&[&str]; 6] = [
+    let table: [&[&str]; 23] = [
         &[],
+        &[""],
         &["frob"],
         &["compile"],
         &["compile", "a.atl", "a.atl", "a.atl"],
         &["compile", ""],
         &["compile", "a.atl", "-a"],
+        &["stages", "a.atl"],
+        &["stages", "a.atl", "a.atl", "a.atl"],
+        &["facts", "a.atl"],
+        &["facts", "a.atl", ""],
+        &["run", "a.atl", "a.atl"],
+        &["run", "a.atl", "a.atl", "a.atl", "a.atl"],
+        &["run", "--mix", "a.atl", "a.atl", "a.atl"],
+        &["run", "--plain", "a.atl", "a.atl"],
+        &["run", "a.atl", "--plain", "a.atl", "a.atl"],
+        &["exec", "--plain", "a.atl", "a.atl"],
+        &["exec", "a.atl"],
+        &["exec", "a.atl", "a.atl", "a.atl"],
+        &["exec", "a.atl", "--"],
+        &["trial"],
+        &["trial", "8", "a.atl"],
+        &["trial", "8", "8"],
     ];
     for words in table {
-        let status = told(&rt, alloc, words, b"atl 1;", &[], texts)?;
+        let status = told(&rt, alloc, words, b"atl 1;", &[], ("", USAGE))?;
         assert!(rt; matches!(status, Status::Usage));
     }
     Ok(())

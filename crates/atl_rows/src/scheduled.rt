@@ -5,7 +5,7 @@ use crate::lowered::BY_FOURS_LINES;
 use std::alloc::{AllocError, Global};
 use std::test::Fail;
 
-const SCALE: &str =
+pub const SCALE: &str =
     "atl 1; size N in 0..8; example N = 3; input A[N]; output B = gen i < N. A[i] * 2;";
 
 const SCALE_LINES: &str = "int64_t len_a0(int64_t n0) { return n0; }
@@ -18,11 +18,11 @@ void atl(int64_t n0, const uint64_t *a0, uint64_t *b0) {
 }
 ";
 
-const LONG: &str =
+pub const LONG: &str =
     "atl 1; size N in 0..100; example N = 3; input A[N]; output B = gen i < N. A[i] * 2;";
 
 // A row of a generation, which is in final form only after beta.
-const REREAD: &str =
+pub const REREAD: &str =
     "atl 1; size N in 0..8; example N = 3; input A[N]; output B = gen i < N. (gen j < N. A[j])[i];";
 
 const REREAD_LINES: &str = "int64_t len_a0(int64_t n0) { return n0; }
@@ -36,7 +36,7 @@ void atl(int64_t n0, const uint64_t *a0, uint64_t *b0) {
 ";
 
 // The row behind the last, which is zero, and not an element of A.
-const BEHIND: &str =
+pub const BEHIND: &str =
     "atl 1; size N in 1..8; example N = 3; input A[N]; output B = (gen i < N. A[i])[N];";
 
 // Nothing is computed there, so any index is shown to be within.
@@ -55,7 +55,7 @@ void atl(int64_t n0, const uint64_t *a0, uint64_t *b0) {
 }
 ";
 
-const SEVENS: &str =
+pub const SEVENS: &str =
     "atl 1; size N in 0..1048576; example N = 3; output B = sum i < N. (gen j < N. 7)[i];";
 
 const SEVENS_LINES: &str = "int64_t len_b0(int64_t n0) { return INT64_C(1); }
@@ -273,7 +273,7 @@ fn a_script_has_up_to_a_thousand_steps(rt: HostRuntime) -> Result<(), Fail> {
 }
 
 // The row behind the last, which a guard takes away.
-const NEXT: &str =
+pub const NEXT: &str =
     "atl 1; size N in 0..8; example N = 3; input A[N]; output B = gen i < N. A[i + 1];";
 
 const GUARDED_NEXT: &str =
@@ -340,13 +340,13 @@ fn operands_are_exchanged_up_to_a_thousand_times(rt: HostRuntime) -> Result<(), 
 }
 
 // examples/attention.atl
-const ATTENTION: &str = "atl 1; size N in 1..64; size D in 1..64; example N = 2, D = 2; \
+pub const ATTENTION: &str = "atl 1; size N in 1..64; size D in 1..64; example N = 2, D = 2; \
      input Q[N][D]; input K[N][D]; input V[N][D]; output O = \
      let s = gen i < N. gen j < N. sum d < D. Q[i][d] * transpose(K)[d][j] in \
      gen i < N. gen e < D. sum j < N. s[i][j] * V[j][e];";
 
 // examples/attention.sched
-const ATTENTION_STEPS: &str = "schedule 1; \
+pub const ATTENTION_STEPS: &str = "schedule 1; \
      at 0.0.0.0.0.1.0 do transpose_index; \
      at 0.0.0.0.0.1 do beta; \
      at 0.0 do split_gen(4); \
@@ -382,7 +382,7 @@ fn attention_goes_in_tiles_by_twelve_steps(rt: HostRuntime) -> Result<(), Fail> 
     becomes(&rt, alloc, ATTENTION, ATTENTION_STEPS, ATTENTION_IN_TILES)
 }
 
-const CUT: &str =
+pub const CUT: &str =
     "atl 1; size N in 2..8; example N = 3; input A[N]; output B = truncr(2, gen i < N. A[i]);";
 
 const SHORTER: &str =
