@@ -21,6 +21,9 @@ pub const FACTS: [&str; 3] = ["facts", "a.atl", "a.sched"];
 /// The words that run it under a script on a given text.
 pub const RUN: [&str; 4] = ["run", "a.atl", "a.sched", "a.given"];
 
+/// The words that compute it on a given text by the plain evaluator.
+pub const PLAIN: [&str; 5] = ["run", "--plain", "a.atl", "a.sched", "a.given"];
+
 /// The words that run a C text on a given text.
 pub const EXEC: [&str; 3] = ["exec", "a.c", "a.given"];
 

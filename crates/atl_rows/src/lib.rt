@@ -16,6 +16,8 @@ mod lowered;
 #[cfg(test)]
 mod outside;
 #[cfg(test)]
+mod plain;
+#[cfg(test)]
 mod rules;
 #[cfg(test)]
 mod run;

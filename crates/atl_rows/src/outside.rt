@@ -1,6 +1,6 @@
 //! What the program answers and writes: statuses, refusals, words that are Usage, and puts that fail.
 
-use crate::calls::{COMPILE, EXEC, FACTS, RUN, SCHEDULE, STAGES, told, written};
+use crate::calls::{COMPILE, EXEC, FACTS, PLAIN, RUN, SCHEDULE, STAGES, told, written};
 use atl_driver::Status;
 use atl_edges::FILE_LIMIT;
 use std::test::Fail;
@@ -14,7 +14,7 @@ fn a_file_that_is_not_read_has_its_line(rt: HostRuntime) -> Result<(), Fail> {
     let alloc = rt.alloc();
     let texts = ("", "ReadFault\n");
     // All files are read before anything is decided: a script that is not there comes before the fault of the source.
-    let table: [(&[&str], &[u64]); 11] = [
+    let table: [(&[&str], &[u64]); 12] = [
         (&COMPILE, &[1]),
         (&["compile", "b"], &[]),
         (&SCHEDULE, &[]),
@@ -22,6 +22,7 @@ fn a_file_that_is_not_read_has_its_line(rt: HostRuntime) -> Result<(), Fail> {
         (&STAGES, &[]),
         (&FACTS, &[]),
         (&RUN, &[]),
+        (&PLAIN, &[]),
         (&["run", "a.atl", "a.atl", "a.given"], &[]),
         (&["run", "a.atl", "a.atl", "a.atl"], &[3]),
         (&EXEC, &[]),

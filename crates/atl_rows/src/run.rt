@@ -7,7 +7,7 @@ use std::alloc::Global;
 use std::process::Abort;
 use std::test::Fail;
 
-const STEPLESS: &str = "schedule 1;";
+pub const STEPLESS: &str = "schedule 1;";
 
 const NEXT_WORD: &str =
     "atl 1; size N in 0..8; example N = 3; input A[N]; output B = gen i < N. A[i] + 1;";
@@ -20,7 +20,7 @@ const WINDOW: &str =
     "atl 1; size N in 1..1000; size K in 1..64; assume N >= K; example N = 5, K = 2; \
      input A[N]; input W[K]; output B = gen i < N - K + 1. sum j < K. A[i + j] * W[j];";
 
-const COLUMNS: &str =
+pub const COLUMNS: &str =
     "atl 1; size N in 0..8; example N = 3; input A[N][5]; output B = transpose(gen i < N. gen j < 5. A[i][j]);";
 
 pub const GUARDED_LET: &str =
